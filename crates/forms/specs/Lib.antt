@@ -1,0 +1,2 @@
+-- What the contracts of the form check cite.
+pub mod Check

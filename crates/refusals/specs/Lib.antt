@@ -1,0 +1,2 @@
+-- What the contracts of every call cite of refusals and answers.
+pub mod Refusals

@@ -1,0 +1,60 @@
+-- Lists: tests over a list, what passes, the first that passes, a list by its rule, a count and a sum.
+use mathlib.Core.Bool.{Bool, true, false, _&&_, _||_, cond}
+use mathlib.Core.List.{List, [], _∷_}
+use Prim.Native.Nat.{ℕ, zero, suc, _+_}
+use lib.Dec.{ltb}
+
+module _ {A : Type 0} where
+  -- every element passes
+  unfoldable pub all : (A → Bool) → List A → Bool
+  all p [] = true
+  all p (x ∷ xs) = p x && all p xs
+
+  -- some element passes
+  unfoldable pub any : (A → Bool) → List A → Bool
+  any p [] = false
+  any p (x ∷ xs) = p x || any p xs
+
+  -- x in front, where it is kept
+  abbrev pub put : Bool → A → List A → List A
+  put true x xs = x ∷ xs
+  put false x xs = xs
+
+  -- the elements that pass, in order
+  unfoldable pub keep : (A → Bool) → List A → List A
+  keep p [] = []
+  keep p (x ∷ xs) = put (p x) x (keep p xs)
+
+  -- f 0, f 1, .. up to f (n - 1)
+  unfoldable pub tab : ℕ → (ℕ → A) → List A
+  tab zero f = []
+  tab (suc n) f = f zero ∷ tab n (λ k. f (suc k))
+
+-- the n numbers from a on
+unfoldable pub from : ℕ → ℕ → List ℕ
+from a zero = []
+from a (suc n) = a ∷ from (suc a) n
+
+-- the least k < n that passes, or n where none does
+unfoldable pub first : (ℕ → Bool) → ℕ → ℕ
+first p zero = zero
+first p (suc n) = cond (p zero) zero (suc (first (λ k. p (suc k)) n))
+
+-- some k < n passes
+unfoldable pub some : (ℕ → Bool) → ℕ → Bool
+some p n = ltb (first p n) n
+
+-- a truth value as a number
+unfoldable pub bit : Bool → ℕ
+bit true = 1
+bit false = 0
+
+-- how many of 1 .. n pass
+unfoldable pub tally : ℕ → (ℕ → Bool) → ℕ
+tally zero p = 0
+tally (suc n) p = tally n p + bit (p (suc n))
+
+-- f 0 + f 1 + .. + f (n - 1)
+unfoldable pub total : ℕ → (ℕ → ℕ) → ℕ
+total zero f = 0
+total (suc n) f = total n f + f n
