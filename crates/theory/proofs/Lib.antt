@@ -15,3 +15,4 @@ pub mod Recipes
 pub mod Steps
 pub mod Scans
 pub mod Valid
+pub mod Demands

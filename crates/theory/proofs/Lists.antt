@@ -156,6 +156,13 @@ module _ {A : Type 0} where
   getD-tab d (suc n) f zero h = refl
   getD-tab d (suc n) f (suc i) h = getD-tab d n (λ k. f (suc k)) i (le-of-suc-le-suc h)
 
+  -- what is so of each value and of the default is so of each element
+  pub getD-tab-default : (P : A → Type 0) (d : A) (n : ℕ) (f : ℕ → A) → P d → ((k : ℕ) → P (f k)) → (i : ℕ) → P (getD (tab n f) i d)
+  unfolding tab
+  getD-tab-default P d zero f p q i = p
+  getD-tab-default P d (suc n) f p q zero = q zero
+  getD-tab-default P d (suc n) f p q (suc i) = getD-tab-default P d n (λ k. f (suc k)) p (λ k. q (suc k)) i
+
   pub tab-suc : (n : ℕ) (f : ℕ → A) → tab (suc n) f ≡ tab n f ++ (f n ∷ [])
   unfolding tab
   tab-suc zero f = refl

@@ -1,6 +1,6 @@
 -- Signals: endless signals over ℤ, a list made endless by a rule for its ends, the window through which a form sees one, and the filter of a scan.
 use mathlib.Core.List.{List}
-use Prim.Native.Nat.{ℕ, suc, _+_, _-_, min}
+use Prim.Native.Nat.{ℕ, suc, _+_, _-_, _≤_, min}
 use lib.ListN.{length, getD}
 use lib.IntN.{ℤ, pos, negsuc, negℤ, subℕ, _+ℤ_, _-ℤ_}
 use Rattle.theory.specs.Lists.{tab}
@@ -38,6 +38,12 @@ unfoldable pub seen : {A : Type 0} → Window → (ℤ → A) → ℤ → ℕ �
 seen W g x i = g (x +ℤ W .offset i)
 
 -- ---- scans of counts
+
+-- a scan: 1 to 16,384 samples, each 0 to 65,535
+pub record Scan (s : List ℕ) : Type 0 where
+  pub some : 1 ≤ length s
+  pub most : length s ≤ 16384
+  pub each : (i : ℕ) → getD s i 0 ≤ 65535
 
 -- the endless signal of a scan: its end samples are repeated without end
 unfoldable pub endlessScan : List ℕ → ℤ → ℕ
