@@ -1,3 +1,4 @@
+-- `forms::check_terms` meets its contract. Assumes nothing.
 use borrow.Author.Needs.{needs}
 use borrow.Author.Count.{below-none, below-more}
 use borrow.Author.Tests.{lt-ltb, le-ltb}

@@ -1,3 +1,4 @@
+-- `forms::contains_earlier` meets its contract. Assumes nothing.
 use borrow.Author.Needs.{needs}
 use borrow.Author.Count.{below-none, below-more}
 use Prim.Native.Nat.{ℕ, _≤_, _<_, _-_}

@@ -1,3 +1,4 @@
+-- `forms::is_bad` meets its contract. Assumes nothing.
 use borrow.Author.Needs.{needs}
 use borrow.Author.Tests.{lt-ltb, le-ltb, le-leb, lt-leb}
 use mathlib.Core.Logic.{⊎-elim}

@@ -1,22 +1,17 @@
+-- `refusals::answer_with` meets its contract. Assumes nothing.
 use borrow.Author.Needs.{needs}
 use Rattle.refusals.proofs.answer_with.Statement.{statement}
 use Rattle.refusals.proofs.answer_with.Tie as tie
-use Rattle.refusals.proofs.answer_with.Reads as reads
-use Rattle.refusals.proofs.answer_with.Lts as lts
 
--- src/lib.rt:121:26
 enum-told : tie.Need-enum-told
 enum-told c = search needs
 
--- src/lib.rt:122:26
 enum-known-checked : tie.Need-enum-known-checked
 enum-known-checked c = search needs
 
--- src/lib.rt:117:1
 returns : tie.Need-returns
 returns c = rw (c .enum-told .given .1)
 
--- src/lib.rt:117:1
 returns-2 : tie.Need-returns-2
 returns-2 c = rw (c .before .checked .given .1)
 

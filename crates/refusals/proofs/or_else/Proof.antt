@@ -1,21 +1,17 @@
+-- `refusals::or_else` meets its contract. Assumes nothing.
 use borrow.Author.Needs.{needs}
 use Rattle.refusals.proofs.or_else.Statement.{statement}
 use Rattle.refusals.proofs.or_else.Tie as tie
-use Rattle.refusals.proofs.or_else.Reads as reads
-use Rattle.refusals.proofs.or_else.Lts as lts
 
--- src/lib.rt:110:29
 enum-known-earlier : tie.Need-enum-known-earlier
 enum-known-earlier c = search needs
 
--- src/lib.rt:111:9
 returns : tie.Need-returns
 returns c = rw (c .before .earlier .given .1)
 
 enum-told : tie.Need-enum-told
 enum-told c = search needs
 
--- src/lib.rt:107:1
 returns-2 : tie.Need-returns-2
 returns-2 c = search needs
 

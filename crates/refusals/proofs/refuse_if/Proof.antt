@@ -1,14 +1,11 @@
+-- `refusals::refuse_if` meets its contract. Assumes nothing.
 use borrow.Author.Needs.{needs}
 use Rattle.refusals.proofs.refuse_if.Statement.{statement}
 use Rattle.refusals.proofs.refuse_if.Tie as tie
-use Rattle.refusals.proofs.refuse_if.Reads as reads
-use Rattle.refusals.proofs.refuse_if.Lts as lts
 
--- src/lib.rt:101:9
 returns : tie.Need-returns
 returns c = rw (c .if1 .taken)
 
--- src/lib.rt:97:1
 returns-2 : tie.Need-returns-2
 returns-2 c = search needs
 

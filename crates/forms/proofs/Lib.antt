@@ -1,0 +1,3 @@
+-- Laws of the form check.
+pub mod Fine
+pub mod Decided

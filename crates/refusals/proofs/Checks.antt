@@ -1,0 +1,23 @@
+-- What an order of refusals tells where it finds nothing.
+-- Assumes nothing.
+use Prim.Native.Nat.{ℕ}
+use native.Mathlib.Omega.{arith}
+use mathlib.Core.Path.{_≡_, refl}
+use mathlib.Core.Bool.{Bool, true, false}
+use Rattle.refusals.specs.Refusals.{refuseIf, orElse}
+use Rattle.refusals.specs.declared.Refusal.{Refusal}
+use Rattle.refusals.specs.declared.Checked.{Checked}
+use Rattle.refusals.specs.declared.Checked.the-variants.{Fine, Refused}
+
+pub refused-fine : {P : Type 0} (r : Refusal) → Refused r ≡ Fine → P
+refused-fine r e = let z : _≡_ {A = ℕ} 0 1 = cc in absurd (omega arith)
+
+-- a test that refuses did not pass, where nothing is refused
+pub refuse-no : (b : Bool) (r : Refusal) → refuseIf b r ≡ Fine → b ≡ false
+refuse-no true r e = refused-fine r e
+refuse-no false r e = refl
+
+-- of two checks in order, neither refuses where the order finds nothing
+pub or-else-fine : (a b : Checked) → orElse a b ≡ Fine → (a ≡ Fine) × (b ≡ Fine)
+or-else-fine Fine b e = (refl, e)
+or-else-fine (Refused r) b e = refused-fine r e

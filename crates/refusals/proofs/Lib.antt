@@ -1,0 +1,2 @@
+-- Laws of an order of refusals.
+pub mod Checks
