@@ -1,0 +1,6 @@
+-- What the preset call rests on, and what is shown of it.
+pub mod Wide
+pub mod Rule
+pub mod Median
+pub mod Given
+pub mod Decided

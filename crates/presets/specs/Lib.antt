@@ -1,0 +1,2 @@
+-- What the contract of the preset call cites.
+pub mod Presets

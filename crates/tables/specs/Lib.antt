@@ -1,0 +1,2 @@
+-- What the contracts of the table calls cite.
+pub mod Tables
