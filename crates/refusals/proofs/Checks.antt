@@ -4,10 +4,11 @@ use Prim.Native.Nat.{ℕ}
 use native.Mathlib.Omega.{arith}
 use mathlib.Core.Path.{_≡_, refl}
 use mathlib.Core.Bool.{Bool, true, false}
-use Rattle.refusals.specs.Refusals.{refuseIf, orElse}
+use Rattle.refusals.specs.Refusals.{refuseIf, orElse, answerOf}
 use Rattle.refusals.specs.declared.Refusal.{Refusal}
 use Rattle.refusals.specs.declared.Checked.{Checked}
 use Rattle.refusals.specs.declared.Checked.the-variants.{Fine, Refused}
+use Rattle.refusals.specs.declared.Answer.the-variants.{Done}
 
 pub refused-fine : {P : Type 0} (r : Refusal) → Refused r ≡ Fine → P
 refused-fine r e = let z : _≡_ {A = ℕ} 0 1 = cc in absurd (omega arith)
@@ -21,3 +22,8 @@ refuse-no false r e = refl
 pub or-else-fine : (a b : Checked) → orElse a b ≡ Fine → (a ≡ Fine) × (b ≡ Fine)
 or-else-fine Fine b e = (refl, e)
 or-else-fine (Refused r) b e = refused-fine r e
+
+-- an answer that gives n comes of a check that found nothing
+pub done-fine : (c : Checked) (m n : ℕ) → Done n ≡ answerOf c m → (c ≡ Fine) × (n ≡ m)
+done-fine Fine m n e = (refl, cc)
+done-fine (Refused r) m n e = let z : _≡_ {A = ℕ} 0 1 = cc in absurd (omega arith)

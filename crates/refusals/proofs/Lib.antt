@@ -1,2 +1,3 @@
 -- Laws of an order of refusals.
 pub mod Checks
+pub mod Limits

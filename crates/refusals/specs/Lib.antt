@@ -1,2 +1,3 @@
 -- What the contracts of every call cite of refusals and answers.
 pub mod Refusals
+pub mod Limits

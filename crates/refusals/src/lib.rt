@@ -4,6 +4,7 @@
 // row's number and place. No function has a `requires`, and nothing is assumed.
 ghost use mathlib.Core.Path.{_≡_};
 ghost use Rattle.refusals.specs.Refusals.{numberOf, placeOf, orElse, refuseIf, answerOf};
+ghost use Rattle.refusals.specs.Limits.{roomChecked, scanChecked, lentChecked};
 
 // A row of document 01's table "Numbers given back when we say no", with its place.
 pub enum Refusal {
@@ -121,4 +122,28 @@ pub fn answer_with(checked: Checked, n: usize) -> Answer
         Checked::Fine => Answer::Done(n),
         Checked::Refused(refusal) => Answer::Refused(refusal),
     }
+}
+
+// Refusal 6, where fewer elements are lent for terms than needed.
+pub fn check_room(needed: usize, lent: usize) -> Checked
+    ensures { λ r. ⌜ r ≡ roomChecked needed lent ⌝ }
+{
+    refuse_if(lent < needed, Refusal::TermsLent(needed))
+}
+
+// Refusal 9, where a scan has no samples or over 16,384.
+pub fn check_scan(samples: usize) -> Checked
+    ensures { λ r. ⌜ r ≡ scanChecked samples ⌝ }
+{
+    refuse_if(
+        (samples == 0) | (16384 < samples),
+        Refusal::ScanLength(samples),
+    )
+}
+
+// Refusal 10, where an output slice has another length than needed.
+pub fn check_lent(needed: usize, lent: usize) -> Checked
+    ensures { λ r. ⌜ r ≡ lentChecked needed lent ⌝ }
+{
+    refuse_if(lent != needed, Refusal::OutputLength(needed))
 }
