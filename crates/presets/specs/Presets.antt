@@ -8,8 +8,9 @@ use lib.ListN.{length, getD}
 use Rattle.theory.specs.Sets.{has}
 use Rattle.theory.specs.Forms.{formOf}
 use Rattle.refusals.specs.Refusals.{refuseIf, orElse, answerOf, written}
+use Rattle.refusals.specs.Limits.{roomChecked}
 use Rattle.refusals.specs.declared.Checked.{Checked}
-use Rattle.refusals.specs.declared.Refusal.the-variants.{TermsLent, PresetNumber}
+use Rattle.refusals.specs.declared.Refusal.the-variants.{PresetNumber}
 use Rattle.refusals.specs.declared.Answer.{Answer}
 
 -- the 8-bit truth tables over x1, x2, x3 (x1 is the lowest bit), ascending
@@ -27,7 +28,7 @@ presetForm i = formOf 9 (widened (getD presetTables i 0))
 
 -- 14, 6
 unfoldable pub presetChecked : ℕ → ℕ → Checked
-presetChecked i lent = orElse (refuseIf (ltb 19 i) (PresetNumber i)) (refuseIf (ltb lent (length (presetForm i))) (TermsLent (length (presetForm i))))
+presetChecked i lent = orElse (refuseIf (ltb 19 i) (PresetNumber i)) (roomChecked (length (presetForm i)) lent)
 
 -- the number of terms, and the form from the start of the slice lent
 pub record Preset (i : ℕ) (old new : List ℕ) (r : Answer) : Type 0 where

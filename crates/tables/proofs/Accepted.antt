@@ -5,18 +5,15 @@ use native.Mathlib.Omega.{arith}
 use mathlib.Core.Path.{_≡_, refl}
 use mathlib.Core.Bool.{false, not}
 use mathlib.Core.List.{List, _++_, append-nil}
-use lib.Dec.{eqb, ltb}
+use lib.Dec.{eqb}
 use lib.ListN.{length, drop, drop-of-length-le}
-use borrow.Author.Tests.{eqb-true, eq-eqb, le-ltb, ltb-false, not-false}
+use borrow.Author.Tests.{eqb-true, eq-eqb, not-false}
 use Rattle.theory.specs.Lists.{some}
 use Rattle.theory.specs.Tables.{tableAt, tableOf, slips}
 use Rattle.theory.proofs.Lists.{length-tab}
-use Rattle.refusals.specs.Refusals.{answerOf}
-use Rattle.refusals.specs.declared.Checked.{Checked}
-use Rattle.refusals.specs.declared.Checked.the-variants as checked
 use Rattle.refusals.specs.declared.Checked.the-variants.{Fine}
-use Rattle.refusals.specs.declared.Answer.the-variants.{Done}
 use Rattle.refusals.proofs.Checks.{refuse-no, or-else-fine}
+use Rattle.refusals.proofs.Limits.{room-fine, fine-room}
 use Rattle.forms.specs.Check.{formChecked}
 use Rattle.tables.specs.Tables.{bytesChecked, positiveChecked, formIn, tableIn, tableChecked, formTabledChecked}
 
@@ -38,12 +35,12 @@ fine-table tb lent e =
     record {
       whole = fine-bytes (length tb) (p .0);
       steady = refuse-no (some (slips 9 (tableAt tb)) 512) _ (q .0);
-      room = ltb-false lent (length (formIn tb)) (refuse-no (ltb lent (length (formIn tb))) _ (q .1));
+      room = room-fine (length (formIn tb)) lent (q .1);
     }
 
 pub table-fine : (tb : List ℕ) (lent : ℕ) → length tb ≡ 64 → some (slips 9 (tableAt tb)) 512 ≡ false → length (formIn tb) ≤ lent → tableChecked tb lent ≡ Fine
 unfolding tableChecked bytesChecked positiveChecked
-table-fine tb lent whole steady room = rw (eq-eqb (length tb) 64 whole, steady, le-ltb lent (length (formIn tb)) room)
+table-fine tb lent whole steady room = rw (eq-eqb (length tb) 64 whole, steady, fine-room (length (formIn tb)) lent room)
 
 -- the terms are a form, and the slice lent for its table is 64 bytes
 pub record Tabular (ts : List ℕ) (lent : ℕ) : Type 0 where
@@ -59,11 +56,6 @@ fine-tabled ts lent e =
 pub tabled-fine : (ts : List ℕ) (lent : ℕ) → formChecked ts ≡ Fine → lent ≡ 64 → formTabledChecked ts lent ≡ Fine
 unfolding formTabledChecked bytesChecked
 tabled-fine ts lent form whole = rw (form, eq-eqb lent 64 whole)
-
--- an answer with a number comes of a check that finds nothing
-pub done-fine : (c : Checked) (m n : ℕ) → Done n ≡ answerOf c m → (c ≡ Fine) × (n ≡ m)
-done-fine checked.Fine m n e = (refl, cc)
-done-fine (checked.Refused r) m n e = let z : _≡_ {A = ℕ} 0 1 = cc in absurd (omega arith)
 
 pub table-length : (ts : List ℕ) → length (tableIn ts) ≡ 64
 unfolding tableIn tableOf

@@ -14,12 +14,13 @@ use Rattle.theory.proofs.Canon.{form-of-holds, form-valid, holds-form, holds-po
 use Rattle.refusals.specs.declared.Checked.the-variants.{Fine}
 use Rattle.refusals.specs.declared.Answer.{Answer}
 use Rattle.refusals.specs.declared.Answer.the-variants.{Done}
+use Rattle.refusals.proofs.Checks.{done-fine}
 use Rattle.forms.proofs.Fine.{fine-form, form-fine}
 use Rattle.tables.specs.Tables.{formIn, tableIn, tableChecked, formTabledChecked, Formed, Tabled}
 use Rattle.tables.proofs.Values.{table-same}
 use Rattle.tables.proofs.Tabulated.{tabulated-form, tabulated-steady}
 use Rattle.tables.proofs.Positives.{fine-positive}
-use Rattle.tables.proofs.Accepted.{fine-table, table-fine, fine-tabled, tabled-fine, table-length, table-fills, done-fine}
+use Rattle.tables.proofs.Accepted.{fine-table, table-fine, fine-tabled, tabled-fine, table-length, table-fills}
 
 -- a form is the form of its table
 pub form-back : (F : List ℕ) → Valid 9 F → formIn (tableIn F) ≡ F

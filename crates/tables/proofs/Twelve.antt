@@ -14,6 +14,7 @@ use Rattle.theory.specs.Forms.{Positive}
 use Rattle.theory.specs.Tables.{tableAt, slips}
 use Rattle.theory.proofs.Tests.{which, not-both}
 use Rattle.refusals.specs.Refusals.{refuseIf, orElse, answerOf}
+use Rattle.refusals.specs.Limits.{roomChecked}
 use Rattle.refusals.specs.declared.Refusal.the-variants.{TermsLent, NotPositive, TableLength}
 use Rattle.refusals.specs.declared.Answer.{Answer}
 use Rattle.refusals.specs.declared.Answer.the-variants.{Refused}
@@ -28,7 +29,7 @@ pub record Slipping (tb : List ℕ) (v : ℕ) : Type 0 where
 
 module _ (tb old new : List ℕ) (r : Answer) (formed : Formed tb old new r) where
   pub twelve : (v : ℕ) → r ≡ Refused (NotPositive v) → Slipping tb v
-  unfolding tableChecked bytesChecked positiveChecked
+  unfolding tableChecked bytesChecked positiveChecked roomChecked
   twelve v e = go (eqb (length tb) 64) (some (slips 9 (tableAt tb)) 512) (ltb (length old) needed) refl refl (sym (formed .answer) ∙ e)
     where
       needed : ℕ

@@ -3,14 +3,15 @@ use Prim.Native.Nat.{ℕ}
 use mathlib.Core.Path.{_≡_}
 use mathlib.Core.Bool.{not}
 use mathlib.Core.List.{List}
-use lib.Dec.{eqb, ltb}
+use lib.Dec.{eqb}
 use lib.ListN.{length}
 use Rattle.theory.specs.Lists.{first, some}
 use Rattle.theory.specs.Forms.{holds, formOf}
 use Rattle.theory.specs.Tables.{tableAt, tableOf, slips}
 use Rattle.refusals.specs.Refusals.{refuseIf, orElse, answerOf, written}
+use Rattle.refusals.specs.Limits.{roomChecked}
 use Rattle.refusals.specs.declared.Checked.{Checked}
-use Rattle.refusals.specs.declared.Refusal.the-variants.{TermsLent, NotPositive, TableLength}
+use Rattle.refusals.specs.declared.Refusal.the-variants.{NotPositive, TableLength}
 use Rattle.refusals.specs.declared.Answer.{Answer}
 use Rattle.forms.specs.Check.{formChecked}
 
@@ -33,7 +34,7 @@ tableIn ts = tableOf 64 (holds ts)
 -- table to form: 13, 12, 6
 unfoldable pub tableChecked : List ℕ → ℕ → Checked
 tableChecked tb lent =
-    orElse (bytesChecked (length tb)) (orElse (positiveChecked tb) (refuseIf (ltb lent (length (formIn tb))) (TermsLent (length (formIn tb)))))
+    orElse (bytesChecked (length tb)) (orElse (positiveChecked tb) (roomChecked (length (formIn tb)) lent))
 
 -- form to table: 7, 8, 13
 unfoldable pub formTabledChecked : List ℕ → ℕ → Checked

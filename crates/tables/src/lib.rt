@@ -176,7 +176,7 @@ fn admit_table(table: &[u8], lent: usize) -> Checked
         return Checked::Refused(Refusal::NotPositive(v));
     }
     let needed = count_terms(table);
-    refusals::refuse_if(lent < needed, Refusal::TermsLent(needed))
+    refusals::check_room(needed, lent)
 }
 
 // A truth table to its form: answers the number of terms, and writes the form from the start of `terms`.

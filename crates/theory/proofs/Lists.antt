@@ -168,6 +168,11 @@ module _ {A : Type 0} where
   tab-suc zero f = refl
   tab-suc (suc n) f = ap (λ (l : List A). f zero ∷ l) (tab-suc n (λ k. f (suc k)))
 
+  pub tab-cong : (n : ℕ) (f g : ℕ → A) → ((k : ℕ) → k < n → f k ≡ g k) → tab n f ≡ tab n g
+  unfolding tab
+  tab-cong zero f g h = refl
+  tab-cong (suc n) f g h = ap₂ {C = List A} (λ x l. x ∷ l) (h zero (suc-le-suc zero-le)) (tab-cong n (λ k. f (suc k)) (λ k. g (suc k)) (λ k l. h (suc k) (suc-le-suc l)))
+
   pub tab-none : (f : ℕ → A) (l : List A) → l ≡ tab 0 f ++ drop 0 l
   unfolding tab
   tab-none f l = refl

@@ -21,14 +21,14 @@ count-terms-requires : tie.Need-count-terms-requires
 unfolding some
 count-terms-requires c κs = (c .before .before .if1 .left, rw (← c .before .first-slip .ensures, le-ltb _ 512 (c .if2 .left)))
 
-refuse-if-requires : tie.Need-refuse-if-requires
-refuse-if-requires c κs = search needs
+check-room-requires : tie.Need-check-room-requires
+check-room-requires c κs = search needs
 
 returns-3 : tie.Need-returns-3
 unfolding tableChecked bytesChecked positiveChecked some
 returns-3 c =
     let found = c .before .before .before in
-    rw (eq-eqb _ 64 (found .before .if1 .left), ← found .first-slip .ensures, le-ltb _ 512 (c .before .before .if2 .left), ← c .before .count-terms .ensures) (c .refuse-if .ensures)
+    rw (eq-eqb _ 64 (found .before .if1 .left), ← found .first-slip .ensures, le-ltb _ 512 (c .before .before .if2 .left), ← c .before .count-terms .ensures) (c .check-room .ensures)
 
 pub admit-table-spec : {M : Type 1} → statement M
 admit-table-spec =
@@ -38,5 +38,5 @@ admit-table-spec =
     first-slip-requires
     returns-2
     count-terms-requires
-    refuse-if-requires
+    check-room-requires
     returns-3)
