@@ -1,14 +1,12 @@
 -- Which recipes are accepted: 1; then step by step 2, 3, 4, 5; then 4 at the end. An accepted recipe leaves one plan.
 use Prim.Native.Nat.{ℕ, zero, suc, _+_, _/_, _%_}
-use mathlib.Core.Bool.{Bool, true, cond, not, _&&_, _||_}
+use mathlib.Core.Bool.{Bool, true, cond, not, _||_}
 use mathlib.Core.List.{List, [], _∷_}
 use mathlib.Core.Option.{Option, none, some}
 use lib.Dec.{ltb, eqb}
 use lib.ListN.{length}
-use lib.Signed.{leZ}
 use Rattle.theory.specs.Signals.{nine}
-use Rattle.theory.specs.Plans.{Plan, scan, lo, hi, truth}
-use Rattle.theory.specs.Forms.{formOf}
+use Rattle.theory.specs.Plans.{Plan, scan}
 use Rattle.theory.specs.Recipes.{act, plans}
 use Rattle.refusals.specs.declared.Refusal.{Refusal}
 use Rattle.refusals.specs.declared.Refusal.the-variants.{RecipeLength, SignalsHeld, Reach}
@@ -17,6 +15,7 @@ use Rattle.refusals.specs.declared.Checked.the-variants as checked
 use Rattle.recipes.specs.declared.Decoded.{Decoded}
 use Rattle.recipes.specs.declared.Decoded.the-variants.{Good, Bad}
 use Rattle.recipes.specs.Steps.{stepAt, meant}
+use Rattle.recipes.specs.Reaches.{reachOf, stays}
 
 pub data Verdict : Type 0 where
   accepted : Plan → Verdict
@@ -24,7 +23,7 @@ pub data Verdict : Type 0 where
 
 -- the reach lies in -4 to 4
 unfoldable pub inReach : Plan → Bool
-inReach e = leZ (nine .left) (lo e) && leZ (hi e) (nine .right)
+inReach e = stays (reachOf e)
 
 -- the reach of the signal that a step leaves
 unfoldable pub topReach : List Plan → Bool
@@ -63,6 +62,11 @@ judged r = cond (badLength r) (refused (RecipeLength (length r))) (judgedFrom r 
 abbrev pub checkedOf : Verdict → Checked
 checkedOf (accepted e) = checked.Fine
 checkedOf (refused r) = checked.Refused r
+
+-- the refusal of what is no step
+abbrev pub refusalIn : Decoded → Checked
+refusalIn (Good s) = checked.Fine
+refusalIn (Bad r) = checked.Refused r
 
 -- 1 to 5
 unfoldable pub recipeChecked : List ℕ → Checked

@@ -1,5 +1,6 @@
 -- A step's four bytes: code, rank, then the set B, two bytes, low first. A field not listed must be 0.
-use Prim.Native.Nat.{ℕ, _+_, _*_, _%_}
+use Prim.Native.Nat.{ℕ, _+_, _*_, _%_, _≤_}
+use mathlib.Core.Path.{_≡_}
 use mathlib.Core.Bool.{Bool, cond, _&&_}
 use mathlib.Core.List.{List}
 use lib.Dec.{leb, eqb}
@@ -7,7 +8,6 @@ use lib.ListN.{getD}
 use Rattle.theory.specs.Signals.{nine}
 use Rattle.theory.specs.Recipes.{size}
 use Rattle.theory.specs.Recipes as theory
-use Rattle.refusals.specs.declared.Refusal.{Refusal}
 use Rattle.refusals.specs.declared.Refusal.the-variants.{StepCode, StepField}
 use Rattle.recipes.specs.declared.Step.{Step}
 use Rattle.recipes.specs.declared.Step.the-variants.{Signal, Erode, Dilate, Open, Close, Rank, Median, Larger, Smaller}
@@ -69,3 +69,15 @@ meant (Rank k b) = theory.one (theory.rank k b)
 meant (Median b) = theory.one (theory.median b)
 meant Larger = theory.join
 meant Smaller = theory.meet
+
+-- what is so of each step that is decoded: its set is 1 to 511, its rank 1 to the set's size, and a median's size is odd
+abbrev pub Sane : Step → Type 0
+Sane Signal = Unit {0}
+Sane (Erode b) = (1 ≤ b) × (b ≤ 511)
+Sane (Dilate b) = (1 ≤ b) × (b ≤ 511)
+Sane (Open b) = (1 ≤ b) × (b ≤ 511)
+Sane (Close b) = (1 ≤ b) × (b ≤ 511)
+Sane (Rank k b) = (1 ≤ b) × (b ≤ 511) × (1 ≤ k) × (k ≤ size nine b)
+Sane (Median b) = (1 ≤ b) × (b ≤ 511) × (size nine b % 2 ≡ 1)
+Sane Larger = Unit {0}
+Sane Smaller = Unit {0}
