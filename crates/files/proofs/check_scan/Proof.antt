@@ -1,0 +1,15 @@
+-- `files::check_scan` meets its contract. Assumes nothing.
+use borrow.Author.Needs.{needs}
+use Rattle.files.specs.Files.{scanChecked}
+use Rattle.files.proofs.check_scan.Statement.{statement}
+use Rattle.files.proofs.check_scan.Tie as tie
+
+refuse-if-requires : tie.Need-refuse-if-requires
+refuse-if-requires c κs = search needs
+
+returns : tie.Need-returns
+unfolding scanChecked
+returns c = search needs
+
+pub check-scan-spec : {M : Type 1} → statement M
+check-scan-spec = tie.close (tie.spec refuse-if-requires returns)

@@ -1,0 +1,4 @@
+-- What the contracts of the scan file cite.
+pub mod Bytes
+pub mod Layout
+pub mod Files

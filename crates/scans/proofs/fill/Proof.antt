@@ -1,0 +1,66 @@
+-- `scans::fill` writes the filter at each sample, one store a turn. Assumes nothing.
+use borrow.Author.Needs.{needs}
+use Prim.Native.Nat.{_≤_, _-_}
+use native.Mathlib.Omega.{arith}
+use lib.ListN.{length}
+use Rattle.theory.specs.Signals.{filteredAt, cleaned}
+use Rattle.scans.proofs.Fills.{Filled, fill-start, fill-turn, fill-end}
+use Rattle.scans.proofs.fill.Statement.{statement}
+use Rattle.scans.proofs.fill.Tie as tie
+
+abbrev Inv-loop : tie.InvT-loop
+Inv-loop terms scan out₀ x₀ out x = (x ≤ length out₀) × Filled (filteredAt terms scan) out₀ x out
+
+abbrev μ-loop : tie.MeasureT-loop
+μ-loop terms scan out₀ x₀ out x = length out₀ - x
+
+loop-holds : tie.Need-loop-holds Inv-loop μ-loop
+loop-holds c = (search needs, fill-start _ _)
+
+filter-at-requires : tie.Need-filter-at-requires Inv-loop μ-loop
+filter-at-requires c κs = search needs
+
+mul-out : tie.Need-mul-out Inv-loop μ-loop
+mul-out c = search needs
+
+slice-write-out : tie.Need-slice-write-out Inv-loop μ-loop
+slice-write-out c = search needs
+
+add-x : tie.Need-add-x Inv-loop μ-loop
+add-x c = search needs
+
+loop-less : tie.Need-loop-less Inv-loop μ-loop
+loop-less c = search needs
+
+loop-again : tie.Need-loop-again Inv-loop μ-loop
+loop-again c =
+    let at = c .before .before in
+    let a = at .before .before .before .before .args in
+    (omega arith, fill-turn (filteredAt (a .terms .now) (a .scan .now)) (a .out .now) 0 (at .loop .x) (at .loop .inv .1) (omega arith) (c .filter-at .ensures))
+
+same-length : tie.Need-same-length Inv-loop μ-loop
+same-length c = search needs
+
+returns : tie.Need-returns Inv-loop μ-loop
+unfolding cleaned
+returns c =
+    let at = c .before in
+    let start = at .before .before .before .before in
+    let a = start .args in
+    fill-end (filteredAt (a .terms .now) (a .scan .now)) (a .out .now) (length (a .scan .now)) (at .loop .x) (at .loop .inv .1) (start .pre .1) (omega arith)
+
+pub fill-spec : {M : Type 1} → statement M
+fill-spec =
+    tie.close
+    (tie.spec
+    Inv-loop
+    μ-loop
+    loop-holds
+    filter-at-requires
+    mul-out
+    slice-write-out
+    add-x
+    loop-less
+    loop-again
+    same-length
+    returns)

@@ -1,0 +1,3 @@
+-- What the contracts of the runs cite.
+pub mod Window
+pub mod Run
