@@ -1,0 +1,35 @@
+-- `cases::input::u8s` meets its contract: reading leaves the room as long as it was. Assumes nothing.
+use borrow.Author.Needs.{needs}
+use native.Mathlib.Omega.{arith}
+use Rattle.cases.proofs.Counting.{counts}
+use Rattle.cases.proofs.input.u8s.Statement.{statement}
+use Rattle.cases.proofs.input.u8s.Tie as tie
+
+u8s-to-lend-requires : tie.Need-u8s-to-lend-requires
+u8s-to-lend-requires c κs = search needs
+
+slice-relend-prefix-read-full : tie.Need-slice-relend-prefix-read-full
+slice-relend-prefix-read-full c = search needs
+
+slice-aggregate-read-full : tie.Need-slice-aggregate-read-full
+slice-aggregate-read-full c = search needs
+
+read-full-requires : tie.Need-read-full-requires
+read-full-requires c κs = search needs
+
+same-length : tie.Need-same-length
+same-length c = search needs
+
+returns : tie.Need-returns
+returns c = counts _ _ (omega (arith, same-length c))
+
+pub u8s-spec : {M : Type 1} → statement M
+u8s-spec =
+    tie.close
+    (tie.spec
+    u8s-to-lend-requires
+    slice-relend-prefix-read-full
+    slice-aggregate-read-full
+    read-full-requires
+    same-length
+    returns)

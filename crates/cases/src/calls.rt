@@ -1,0 +1,27 @@
+// Which call is made. The number that a call begins with names it.
+//
+// A call's own function reads its arguments. Where a slice is lent, a second function, `.._into`, has
+// it at its right length: it makes the call, and prints the slice as the call left it.
+use crate::form_calls;
+use crate::input;
+use crate::output;
+use crate::scan_calls;
+
+// Makes the next call. Answers false where there is none, or none of that number.
+pub fn make() -> bool {
+    let op = input::one_byte();
+    match op {
+        1 => form_calls::check(),
+        2 => scan_calls::clean(),
+        3 => scan_calls::residue(),
+        4 => scan_calls::root(),
+        5 => form_calls::table_to_form(),
+        6 => form_calls::form_to_table(),
+        7 => form_calls::preset(),
+        _ => {
+            return false;
+        }
+    }
+    output::end_of_line();
+    true
+}

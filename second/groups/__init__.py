@@ -1,0 +1,1 @@
+"""The vectors, a module to a group of calls. Each yields its calls in a fixed order."""

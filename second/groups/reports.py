@@ -1,0 +1,31 @@
+"""Counting from a scan file for the report."""
+
+from itertools import groupby
+
+import chance as by
+from groups import files
+from groups.scans import MEDIAN_3
+from rules.files import file_of
+from wire import call
+
+
+def read_files(chance):
+    """The files that the group `files` reads, each once."""
+    read = (a_call.arguments[0] for a_call in files.calls(chance) if a_call.name == "read")
+    for file, _ in groupby(read):
+        yield call("count", file)
+
+
+def counted(chance):
+    """Spikes at the ends, beside each other and apart; both totals as large as they come."""
+    for scan in ([10, 10, 90, 0, 10, 10], [90, 10, 10, 10, 90], [1, 9, 1, 9, 1, 9, 1],
+                 [5], [5, 5], [0, 65535, 0, 0, 65535, 0], [9, 0, 9, 9, 0, 0, 9, 0, 0]):
+        for terms in (MEDIAN_3, [16], [], [0], [511], [8], [24, 48], [16, 40]):
+            yield call("count", file_of(terms, scan))
+    for _ in range(60):
+        yield call("count", file_of(by.any_form(chance), by.scan(chance)))
+
+
+def calls(chance):
+    yield from counted(chance)
+    yield from read_files(chance)

@@ -1,0 +1,327 @@
+"""The second program itself, against the scope document's worked cases and the papers' vectors.
+
+    python3 second/test_second.py
+"""
+
+import unittest
+from itertools import combinations
+
+from chance import Chance, accepted_recipe, any_form, damaged_form, recipe_of, scan as some_scan
+from groups.forms import subsets_of_size
+from groups.recipes import closing, dilate, erode, median, opening, rank, signal, smaller
+from groups.scans import MEDIAN_3, MEDIAN_5, dual, mirrored, runs
+from rules import files, forms, recipes, scans
+from rules.forms import number_of
+from rules.recipes import Step
+from rules.refusals import Refused
+from vectors import CASES
+from wire import call, checksum, line, record
+
+
+def cleaned(terms, scan):
+    out = [0] * len(scan)
+    scans.clean(terms, scan, out)
+    return out
+
+
+def ran(scan, *steps):
+    out = [0] * len(scan)
+    recipes.run_recipe(recipe_of(steps), scan, out)
+    return out
+
+
+def form(*steps):
+    lent = [0] * 126
+    return lent[:recipes.compile_recipe(recipe_of(steps), lent)]
+
+
+def preset(number):
+    lent = [0] * 3
+    return lent[:forms.preset(number, lent)]
+
+
+class Case(unittest.TestCase):
+    def refused(self, number, place, rule, *arguments):
+        with self.assertRaises(Refused) as caught:
+            rule(*arguments)
+        self.assertEqual((caught.exception.number, caught.exception.place), (number, place))
+
+
+class ScopeDocument(Case):
+    """Its "Cases at the edges" and "Ways this goes wrong"."""
+
+    def test_forms_of_recipes(self):
+        self.assertEqual(form(signal), [16])
+        self.assertEqual(form(signal, median(56)), [24, 40, 48])
+        self.assertEqual(form(signal, opening(48)), [24, 48])
+        self.assertEqual(form(signal, closing(48)), [16, 40])
+        self.assertEqual(form(signal, dilate(48)), [8, 16])
+        self.assertEqual(form(signal, opening(56)), [28, 56, 112])
+        self.assertEqual(form(signal, closing(48), signal, smaller), [16])
+
+    def test_runs(self):
+        self.assertEqual(cleaned([24, 40, 48], [10, 10, 90, 10, 10]), [10] * 5)
+        self.assertEqual(cleaned([16, 40], [2, 2, 0, 1, 1]), [2, 2, 1, 1, 1])
+        self.assertEqual(ran([5, 0, 0], signal, erode(56), dilate(56)), [5, 0, 0])
+        self.assertEqual(ran([7], signal, erode(1)), [7])
+        self.assertEqual(cleaned([], [3, 9]), [0, 0])
+        self.assertEqual(cleaned([0], [3, 9]), [65535, 65535])
+
+    def test_recipes_accepted_and_refused(self):
+        def judge(*steps):
+            return recipes.judged(recipe_of(steps))
+        self.assertEqual(len(judge(signal, erode(257))), 2)
+        self.assertEqual(len(judge(signal, opening(496))), 2)
+        self.refused(5, 1, judge, signal, opening(504))
+        self.refused(5, 2, judge, signal, erode(1), erode(1))
+        self.refused(3, 1, judge, signal, erode(0))
+        self.refused(4, 2, judge, signal, signal)
+        self.refused(4, 0, judge, erode(56))
+
+    def test_lists_and_tables_refused(self):
+        self.refused(7, 1, forms.check, [24, 16])
+        self.refused(7, 1, forms.check, [16, 24])
+        self.refused(12, 0, forms.table_to_form, [1] + [0] * 63, [])
+
+    def test_ways_this_goes_wrong(self):
+        self.assertEqual(form(signal, rank(1, 48)), [16, 32])
+        self.assertEqual(ran([1, 1, 0, 0, 1, 0], signal, closing(176))[2], 1)
+        self.assertEqual(ran([3, 1, 2], signal, rank(1, 56)), [3, 3, 2])
+        self.assertEqual(form(signal, opening(48), signal, smaller), form(signal, opening(48)))
+
+    def test_report(self):
+        file = bytes.fromhex("0A 00 0A 00 5A 00 0A 00 0A 00 18 00 28 00 30 00"
+                             "1C 00 00 00 12 00 00 00 03 00 53 46")
+        self.assertEqual(files.count(file), (5, 1, 1, 80, 0))
+        self.assertEqual(bytes(files.file_of([24, 40, 48], [10, 10, 90, 10, 10])), file)
+
+
+class Readings(Case):
+    """Where the document's words leave room, what was settled."""
+
+    def judge(self, *steps):
+        return recipes.judged(recipe_of(steps))
+
+    def test_reach_may_come_back(self):
+        self.assertEqual(form(signal, erode(256), dilate(256)), [16])
+        self.assertEqual(form(signal, erode(256), opening(256)), [256])
+        self.refused(5, 2, self.judge, signal, erode(256), opening(48))
+
+    def test_first_faulty_step_decides(self):
+        self.refused(5, 2, self.judge, signal, erode(1), erode(1), Step(9, 0, 0))
+        self.refused(3, 0, self.judge, erode(0))
+        self.refused(3, 1, self.judge, signal, Step(7, 0, 1))
+        self.refused(4, 8, self.judge, *[signal] * 9)
+        self.refused(3, 1, self.judge, signal, median(48))
+
+    def test_lengths(self):
+        for size in (0, 1, 3, 5, 127, 129, 132):
+            self.refused(1, size, recipes.judged, [0] * size)
+        self.assertEqual(len(self.judge(signal, *[median(16)] * 31)), 32)
+
+    def test_slices(self):
+        self.refused(10, 2, scans.clean, [16], [1, 2], [0] * 3)
+        self.refused(10, 2, scans.residue, [16], [1, 2], [0])
+        self.refused(10, 18, files.write, [16], [1, 2], [0] * 17)
+        self.refused(13, 65, forms.form_to_table, [16], [0] * 65)
+        self.assertEqual(forms.preset(0, []), 0)
+        self.refused(6, 3, forms.preset, 10, [0, 0])
+        table = [0] * 64
+        self.assertEqual(forms.form_to_table([24, 40, 48], table), 3)
+
+    def test_preset_numbers_are_never_cut(self):
+        for number in (20, 255, 256, 276, 65536, 2 ** 32 - 1, 2 ** 64 - 1):
+            self.refused(14, number, forms.preset, number, [0] * 3)
+
+    def test_reading(self):
+        self.refused(9, 0, files.read, files.file_of([], []), [], [])
+        self.refused(9, 0, files.read, files.file_of([16], []), [], [])
+        self.refused(7, 1, files.read, files.file_of([24, 16], []), [], [])
+        self.refused(6, 1, files.read, files.file_of([16], [1]), [], [])
+        self.refused(10, 1, files.read, files.file_of([16], [1]), [], [0])
+        self.refused(7, 126, files.read, files.file_of(subsets_of_size(5) + [511], [1]), [], [])
+        self.refused(9, 16385, files.read, files.file_of([], [0] * 16385), [], [])
+        self.refused(9, 16510, files.count, files.file_of([], [0] * 16510))
+        self.refused(11, 0, files.count, files.file_of([], [0] * 16511))
+        self.refused(11, 0, files.count, [])
+
+    def test_refused_calls_write_nothing_and_accepted_ones_no_more(self):
+        samples, terms = [1] * 3, [2] * 3
+        self.refused(10, 4, files.read, files.file_of([16], [9] * 4), samples, terms)
+        self.assertEqual((samples, terms), ([1] * 3, [2] * 3))
+        files.read(files.file_of([16], [9, 8]), samples, terms)
+        self.assertEqual((samples, terms), ([9, 8, 1], [16, 2, 2]))
+
+    def test_spike_is_a_run_that_cannot_be_lengthened(self):
+        self.assertEqual(files.count(files.file_of(MEDIAN_3, [10, 10, 90, 0, 10, 10])),
+                         (6, 2, 1, 80, 10))
+
+
+class Papers(Case):
+    """The vectors of the five source documents."""
+
+    def test_004_figure_6(self):
+        self.assertEqual(preset(12), [16, 40])
+        self.assertEqual(cleaned([16, 40], [1, 1, 3, 2, 2]), [1, 1, 3, 2, 2])
+        self.assertEqual(cleaned(preset(7), [2, 2, 0, 1, 1]), [2, 2, 0, 1, 1])
+        self.assertEqual(cleaned(preset(10), [2, 2, 0, 1, 1]), [2, 2, 1, 1, 1])
+        for number in (7, 10):
+            self.assertEqual(cleaned(preset(number), [1, 1, 3, 2, 2]), [1, 1, 2, 2, 2])
+
+    def test_000_examples(self):
+        self.assertEqual(form(signal, closing(56)), [16, 36, 40, 72])
+        fives = [number_of(c) for c in combinations(range(-2, 3), 3)]
+        self.assertEqual(form(signal, median(124)), sorted(fives))
+        self.assertEqual(MEDIAN_5, sorted(fives))
+        self.assertEqual(scans.root(MEDIAN_5, runs(4, 9, 4, 3, 3)), 23)
+        self.assertEqual(scans.root(MEDIAN_5, [0, 1, 0, 1, 0, 1, 0, 1, 0]), 1)
+        self.assertEqual(cleaned(MEDIAN_5, [0, 1, 0, 1, 0, 1, 0, 1, 0]),
+                         [0, 0, 0, 1, 0, 1, 0, 0, 0])
+
+    def test_003_closing_by_neighbours(self):
+        """Proposition 6: {0} and the pairs {a, b}, a < 0 < b, 2 <= b - a <= n."""
+        for n, b in ((2, 48), (3, 112), (4, 240), (5, 496)):
+            pairs = [number_of([a, c]) for a in range(-4, 0) for c in range(1, 5) if c - a <= n]
+            self.assertEqual(form(signal, closing(b)), sorted([16] + pairs))
+            self.assertEqual(len(pairs), n * (n - 1) // 2)
+
+    def test_003_rank_5_of_9(self):
+        self.assertEqual(form(signal, rank(5, 511)), subsets_of_size(5))
+        self.assertEqual(len(subsets_of_size(5)), 126)
+
+    def test_computed_forms(self):
+        self.assertEqual(form(signal, opening(240)), [30, 60, 120, 240])
+        self.assertEqual(form(signal, opening(496)), [31, 62, 124, 248, 496])
+        self.assertEqual(form(signal, closing(176)), [16, 70, 76, 98, 104, 134, 140, 162, 168])
+        self.assertEqual(form(signal, opening(176)), [22, 88, 176])
+        self.assertEqual(form(signal, opening(48), closing(48)), [24, 48, 108])
+        self.assertEqual(form(signal, closing(48), opening(48)), [20, 24, 40, 48, 80])
+        self.assertEqual(form(signal, opening(112), closing(112)), [28, 56, 112, 231, 238, 462])
+        self.assertEqual(form(signal, closing(112), opening(112)),
+                         [18, 20, 25, 36, 40, 72, 80, 144, 304])
+        self.assertEqual(dual(form(signal, opening(112), closing(112))),
+                         form(signal, closing(112), opening(112)))
+
+    def test_held_ends_are_not_infinite_ends(self):
+        self.assertEqual(ran([2, 4, 2], signal, opening(number_of([0, 2, 3]))), [2, 2, 2])
+
+    PRESETS = [
+        # form, dual, mirror
+        ([], 19, 0), ([56], 18, 1), ([24], 13, 6), ([40], 16, 3), ([24, 40], 11, 9), ([8], 5, 14),
+        ([48], 17, 2), ([24, 48], 12, 7), ([16], 8, 8), ([40, 48], 15, 4), ([24, 40, 48], 10, 10),
+        ([8, 48], 4, 15), ([16, 40], 7, 12), ([8, 16], 2, 17), ([32], 14, 5), ([24, 32], 9, 11),
+        ([8, 32], 3, 16), ([16, 32], 6, 13), ([8, 16, 32], 1, 18), ([0], 0, 19),
+    ]
+
+    def test_presets(self):
+        for number, (terms, its_dual, its_mirror) in enumerate(self.PRESETS):
+            self.assertEqual(preset(number), terms)
+            self.assertEqual(dual(terms), preset(its_dual))
+            self.assertEqual(mirrored(terms), preset(its_mirror))
+
+
+class Laws(Case):
+    """What holds of every form and recipe, tried on some."""
+
+    def test_levels_against_largest_of_smallest(self):
+        """By "the largest, over the terms, of the smallest sample the term reaches"."""
+        chance = Chance(1)
+        for _ in range(100):
+            terms, scan = any_form(chance), some_scan(chance)
+            expected = [max([min([65535] + [scans.endless(scan, x + d) for d in forms.SETS[term]])
+                             for term in terms], default=0) for x in range(len(scan))]
+            self.assertEqual(cleaned(terms, scan), expected)
+
+    def test_levels_one_by_one(self):
+        function = forms.function_of(MEDIAN_3)
+        scan = [3, 65535, 0, 40000]
+        for x in range(len(scan)):
+            around = {d: scans.endless(scan, x + d) for d in forms.OFFSETS}
+            levels = sum(function[scans.cut(around, t)] for t in range(1, 65536))
+            self.assertEqual(scans.filtered_at(function, scan, x), levels)
+
+    def test_mirror_and_dual(self):
+        chance = Chance(2)
+        for _ in range(50):
+            terms, scan = any_form(chance), some_scan(chance)
+            out = cleaned(terms, scan)
+            self.assertEqual(cleaned(mirrored(terms), scan[::-1]), out[::-1])
+            self.assertEqual(cleaned(dual(terms), [65535 - s for s in scan]),
+                             [65535 - s for s in out])
+
+    def test_compiled_form_is_the_recipe(self):
+        chance = Chance(3)
+        for _ in range(40):
+            recipe, scan = accepted_recipe(chance, chance.between(1, 9)), some_scan(chance)
+            lent = [0] * 126
+            terms = lent[:recipes.compile_recipe(recipe, lent)]
+            out = [0] * len(scan)
+            recipes.run_recipe(recipe, scan, out)
+            self.assertEqual(cleaned(terms, scan), out)
+
+    def test_tables_and_forms_are_inverse(self):
+        chance = Chance(4)
+        for _ in range(50):
+            terms, table, lent = any_form(chance), [0] * 64, [0] * 126
+            forms.form_to_table(terms, table)
+            self.assertEqual(lent[:forms.table_to_form(table, lent)], terms)
+
+    def test_counts_of_positive_functions(self):
+        """004: 20 positive functions of three samples."""
+        def is_positive(function):
+            return not any(forms.is_lost_above(function, v) for v in forms.PATTERNS)
+        positive = [t for t in range(256) if is_positive(forms.preset_function(t))]
+        self.assertEqual(positive, forms.PRESET_TABLES)
+
+    def test_damaged_forms_are_mostly_refused(self):
+        chance = Chance(5)
+        refused = 0
+        for _ in range(100):
+            try:
+                forms.check(damaged_form(chance))
+            except Refused as no:
+                self.assertEqual(no.number, 7)
+                refused += 1
+        self.assertGreater(refused, 70)
+
+
+class Vectors(Case):
+    """The formats, and that the vectors reach what they are to reach."""
+
+    def test_record(self):
+        self.assertEqual(record(call("clean", [24], [1, 258], 2)).hex(" "),
+                         "02 01 00 00 00 18 00 02 00 00 00 01 00 02 01 02 00 00 00")
+        self.assertEqual(record(call("preset", 2 ** 64 - 1, 3)).hex(" "),
+                         "07 ff ff ff ff ff ff ff ff 03 00 00 00")
+
+    def test_line(self):
+        self.assertEqual(line(call("clean", [16], [1, 2], 2)), "clean 0 2 : 1 2")
+        self.assertEqual(line(call("clean", [16], [1, 2], 0)), "clean 10 2 :")
+        self.assertEqual(line(call("residue", [], [], 2)), "residue 9 0 : -7 -7")
+        self.assertEqual(line(call("root", [16], [1, 2])), "root 0 2")
+        self.assertEqual(line(call("read", files.file_of([16], [5]), 2, 1)),
+                         "read 0 1 1 : 5 43981 ; 16")
+        self.assertEqual(line(call("table_to_form", [0] * 64, 41)),
+                         "table_to_form 0 0 : #%d" % checksum([43981] * 41))
+
+    def test_checksum(self):
+        self.assertEqual(checksum([0, -7]), 31 + 2 ** 32 - 7 + 1)
+
+    # What each call can answer: 0 for accepted, and its refusals. No input has refusal 8.
+    ANSWERS = {
+        "check": {0, 7}, "clean": {0, 7, 9, 10}, "residue": {0, 7, 9, 10}, "root": {0, 7, 9},
+        "table_to_form": {0, 6, 12, 13}, "form_to_table": {0, 7, 13}, "preset": {0, 6, 14},
+        "run_recipe": {0, 1, 2, 3, 4, 5, 9, 10}, "compile": {0, 1, 2, 3, 4, 5, 6},
+        "write": {0, 7, 9, 10}, "read": {0, 6, 7, 9, 10, 11}, "count": {0, 7, 9, 11},
+    }
+
+    def test_the_stored_lines_have_every_answer_of_every_call(self):
+        found = {}
+        for stored in (CASES / "stdout").read_text().splitlines():
+            name, number = stored.split()[:2]
+            found.setdefault(name, set()).add(int(number))
+        self.assertEqual(found, {name: self.ANSWERS[name] for name in found})
+
+
+if __name__ == "__main__":
+    unittest.main()
