@@ -3,6 +3,7 @@ pub mod Layouts
 pub mod Fronts
 pub mod Stores
 pub mod Accepts
+pub mod Held
 pub mod Words
 pub mod Contents
 pub mod RoundTrips

@@ -1,23 +1,20 @@
 -- What reading and writing a scan file answer, and what they leave in the slices lent.
 use Prim.Native.Nat.{ℕ}
 use mathlib.Core.Path.{_≡_}
-use mathlib.Core.Bool.{not, _||_}
+use mathlib.Core.Bool.{not}
 use mathlib.Core.List.{List}
-use lib.Dec.{eqb, ltb}
+use lib.Dec.{ltb}
 use lib.ListN.{length}
 use Rattle.refusals.specs.Refusals.{refuseIf, orElse, answerOf, written}
+use Rattle.refusals.specs.Limits.{roomChecked, scanChecked, lentChecked}
 use Rattle.refusals.specs.declared.Answer.{Answer}
 use Rattle.refusals.specs.declared.Checked.{Checked}
 use Rattle.refusals.specs.declared.Checked.the-variants as checked
-use Rattle.refusals.specs.declared.Refusal.the-variants.{TermsLent, ScanLength, OutputLength, Layout}
+use Rattle.refusals.specs.declared.Refusal.the-variants.{OutputLength, Layout}
 use Rattle.forms.specs.Check.{formChecked}
 use Rattle.files.specs.declared.ReadAnswer.{ReadAnswer}
 use Rattle.files.specs.declared.ReadAnswer.the-variants as answer
 use Rattle.files.specs.Layout.{fileLength, fileOf, laidWell, fileSamples, fileTerms}
-
--- 9: a scan of 0 or over 16,384 samples
-unfoldable pub scanChecked : ℕ → Checked
-scanChecked samples = refuseIf (eqb samples 0 || ltb 16384 samples) (ScanLength samples)
 
 -- 11, of the file's layout
 unfoldable pub layoutChecked : List ℕ → Checked
@@ -27,22 +24,18 @@ layoutChecked f = refuseIf (not (laidWell f)) Layout
 unfoldable pub fileChecked : List ℕ → Checked
 fileChecked f = orElse (layoutChecked f) (orElse (formChecked (fileTerms f)) (scanChecked (length (fileSamples f))))
 
--- 6 and 10: as many elements are lent for the terms, and for the samples, as the file has
-unfoldable pub roomChecked : List ℕ → ℕ → ℕ → Checked
-roomChecked f samples terms =
-    orElse (refuseIf (ltb terms (length (fileTerms f))) (TermsLent (length (fileTerms f))))
-    (refuseIf (ltb samples (length (fileSamples f))) (OutputLength (length (fileSamples f))))
+-- 6, then 10: so many elements are lent for the samples and for the terms; for samples more than needed is fine
+unfoldable pub slicesChecked : List ℕ → ℕ → ℕ → Checked
+slicesChecked f samples terms =
+    orElse (roomChecked (length (fileTerms f)) terms) (refuseIf (ltb samples (length (fileSamples f))) (OutputLength (length (fileSamples f))))
 
--- reading: 11, 7, 8, 9, 6, 10, with so many elements lent for samples and for terms
+-- reading: 11, 7, 8, 9, 6, 10
 unfoldable pub readChecked : List ℕ → ℕ → ℕ → Checked
-readChecked f samples terms = orElse (fileChecked f) (roomChecked f samples terms)
+readChecked f samples terms = orElse (fileChecked f) (slicesChecked f samples terms)
 
 -- writing: 7, 8, 9, 10, with so many bytes lent
 unfoldable pub writeChecked : List ℕ → List ℕ → ℕ → Checked
-writeChecked form scan lent =
-    orElse (formChecked form)
-    (orElse (scanChecked (length scan))
-    (refuseIf (not (eqb lent (fileLength (length scan) (length form)))) (OutputLength (fileLength (length scan) (length form)))))
+writeChecked form scan lent = orElse (formChecked form) (orElse (scanChecked (length scan)) (lentChecked (fileLength (length scan) (length form)) lent))
 
 -- a read's answer: both numbers, or the refusal
 abbrev pub readAnswerOf : Checked → ℕ → ℕ → ReadAnswer

@@ -11,11 +11,12 @@ ghost use Prim.Native.Nat.{_+_, _*_, _<_, _≤_, min};
 ghost use lib.ListN.{length, drop};
 ghost use lib.Seq.{sets};
 ghost use Rattle.refusals.specs.Refusals.{orElse};
+ghost use Rattle.refusals.specs.Limits.{scanChecked};
 ghost use Rattle.refusals.specs.declared.Checked.the-variants.{Fine};
 ghost use Rattle.forms.specs.Check.{formChecked};
 ghost use Rattle.files.specs.Bytes.{twoBytes, fourBytes, inWords, wordAt, longAt, wordsFrom};
 ghost use Rattle.files.specs.Layout.{fileLength, trailer, fileOf, marked, pointsAtTerms, pointsAtSamples, laidWell, fileSamples, fileTerms};
-ghost use Rattle.files.specs.Files.{scanChecked, fileChecked, readChecked, writeChecked, WasRead, Wrote};
+ghost use Rattle.files.specs.Files.{fileChecked, readChecked, writeChecked, WasRead, Wrote};
 
 // What a read answers: how many samples and terms the file has, or why it says no.
 pub enum ReadAnswer {
@@ -134,16 +135,6 @@ fn check_form(file: &[u8], at: usize, n: usize) -> Checked
     forms::check(&terms[..few])
 }
 
-// Refuses 9 for a scan of 0 or over 16,384 samples.
-fn check_scan(samples: usize) -> Checked
-    ensures { λ r. ⌜ r ≡ scanChecked samples ⌝ }
-{
-    refusals::refuse_if(
-        (samples == 0) | (16384 < samples),
-        Refusal::ScanLength(samples),
-    )
-}
-
 // What a file that is laid out well holds: its terms are judged where they lie, then its samples are counted.
 fn check_contents(file: &[u8]) -> Checked
     requires { ⌜ laidWell (now file) ≡ true ⌝ }
@@ -152,7 +143,7 @@ fn check_contents(file: &[u8]) -> Checked
     let samples = count_samples(file);
     refusals::or_else(
         check_form(file, 2 * samples, count_terms(file)),
-        check_scan(samples),
+        refusals::check_scan(samples),
     )
 }
 
@@ -178,7 +169,7 @@ fn admit_read(file: &[u8], samples_lent: usize, terms_lent: usize) -> Checked
     let samples = count_samples(file);
     let terms = count_terms(file);
     refusals::or_else(
-        refusals::refuse_if(terms_lent < terms, Refusal::TermsLent(terms)),
+        refusals::check_room(terms, terms_lent),
         refusals::refuse_if(samples_lent < samples, Refusal::OutputLength(samples)),
     )
 }
@@ -261,12 +252,12 @@ fn put_trailer(samples: usize, terms: usize, at: usize, out: &mut [u8])
 fn admit_write(terms: &[u16], scan: &[u16], lent: usize) -> Checked
     ensures { λ r. ⌜ r ≡ writeChecked (now (terms .entry)) (now (scan .entry)) lent ⌝ }
 {
-    let checked = refusals::or_else(forms::check(terms), check_scan(scan.len()));
+    let checked = refusals::or_else(forms::check(terms), refusals::check_scan(scan.len()));
     if let Checked::Refused(refusal) = checked {
         return Checked::Refused(refusal);
     }
     let needed = 2 * scan.len() + 2 * terms.len() + 12;
-    refusals::refuse_if(lent != needed, Refusal::OutputLength(needed))
+    refusals::check_lent(needed, lent)
 }
 
 // Puts a whole file.

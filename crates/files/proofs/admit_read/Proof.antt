@@ -1,7 +1,7 @@
 -- `files::admit_read` meets its contract. Assumes nothing.
 use borrow.Author.Needs.{needs}
 use mathlib.Core.Path.{sym, _∙_}
-use Rattle.files.specs.Files.{roomChecked, readChecked}
+use Rattle.files.specs.Files.{slicesChecked, readChecked}
 use Rattle.files.proofs.Layouts.{laid-well}
 use Rattle.files.proofs.Accepts.{fine-file}
 use Rattle.files.proofs.admit_read.Statement.{statement}
@@ -30,17 +30,17 @@ count-terms-requires c κs =
     let f = c .before .before .before .before .before .args .file .now in
     laid-well f (fine-file f (sym (c .before .before .before .check-file .ensures) ∙ c .before .enum-told .given .1) .laid)
 
+check-room-requires : tie.Need-check-room-requires
+check-room-requires c κs = search needs
+
 refuse-if-requires : tie.Need-refuse-if-requires
 refuse-if-requires c κs = search needs
-
-refuse-if-requires-2 : tie.Need-refuse-if-requires-2
-refuse-if-requires-2 c κs = search needs
 
 or-else-requires : tie.Need-or-else-requires
 or-else-requires c κs = search needs
 
 returns-2 : tie.Need-returns-2
-unfolding readChecked roomChecked
+unfolding readChecked slicesChecked
 returns-2 c = rw (sym (c .before .before .before .before .before .before .before .check-file .ensures) ∙ c .before .before .before .before .before .enum-told .given .1) (cc)
 
 pub admit-read-spec : {M : Type 1} → statement M
@@ -53,7 +53,7 @@ admit-read-spec =
     enum-told
     count-samples-requires
     count-terms-requires
+    check-room-requires
     refuse-if-requires
-    refuse-if-requires-2
     or-else-requires
     returns-2)

@@ -4,12 +4,13 @@ use native.Mathlib.Omega.{arith}
 use mathlib.Core.Path.{sym, ap₂, _∙_}
 use lib.ListN.{length}
 use Rattle.refusals.specs.Refusals.{orElse}
+use Rattle.refusals.specs.Limits.{scanChecked}
 use Rattle.refusals.proofs.Checks.{or-else-fine}
+use Rattle.refusals.proofs.Limits.{scan-fine}
 use Rattle.forms.specs.Check.{formChecked}
 use Rattle.forms.proofs.Fine.{fine-few}
-use Rattle.files.specs.Files.{scanChecked}
 use Rattle.files.specs.Layout.{fileLength}
-use Rattle.files.proofs.Accepts.{fine-scan, write-last}
+use Rattle.files.proofs.Accepts.{write-last}
 use Rattle.files.proofs.admit_write.Statement.{statement}
 use Rattle.files.proofs.admit_write.Tie as tie
 
@@ -47,16 +48,16 @@ add-needed-2 c =
     let a = c .before .before .before .before .before .before .before .args in
     let sound = sym (c .before .before .or-else .ensures ∙ ap₂ orElse (c .before .before .before .before .check .ensures) (c .before .before .before .check-scan .ensures)) ∙ c .enum-told .given .1 in
     let both = or-else-fine (formChecked (a .terms .now)) (scanChecked (length (a .scan .now))) sound in
-    omega (arith, fine-few (a .terms .now) (both .0), fine-scan (length (a .scan .now)) (both .1))
+    omega (arith, fine-few (a .terms .now) (both .0), scan-fine (length (a .scan .now)) (both .1))
 
-refuse-if-requires : tie.Need-refuse-if-requires
-refuse-if-requires c κs = search needs
+check-lent-requires : tie.Need-check-lent-requires
+check-lent-requires c κs = search needs
 
 returns-2 : tie.Need-returns-2
 unfolding fileLength
 returns-2 c =
     let a = c .before .before .before .before .before .before .before .before .args in
-    rw (write-last (a .terms .now) (a .scan .now) (a .lent), sym (c .before .before .before .or-else .ensures ∙ ap₂ orElse (c .before .before .before .before .before .check .ensures) (c .before .before .before .before .check-scan .ensures)) ∙ c .before .enum-told .given .1) (c .refuse-if .ensures)
+    rw (write-last (a .terms .now) (a .scan .now) (a .lent), sym (c .before .before .before .or-else .ensures ∙ ap₂ orElse (c .before .before .before .before .before .check .ensures) (c .before .before .before .before .check-scan .ensures)) ∙ c .before .enum-told .given .1) (c .check-lent .ensures)
 
 pub admit-write-spec : {M : Type 1} → statement M
 admit-write-spec =
@@ -72,5 +73,5 @@ admit-write-spec =
     mul-needed-2
     add-needed
     add-needed-2
-    refuse-if-requires
+    check-lent-requires
     returns-2)

@@ -28,7 +28,7 @@ fill-file-requires : tie.Need-fill-file-requires
 fill-file-requires c κs =
     let a = c .before .before .before .before .before .before .before .args in
     let w = fine-write (a .terms .now) (a .scan .now) (length (a .out .now)) (sym (c .before .before .before .admit-write .ensures) ∙ c .before .enum-told .given .1) in
-    ((w .scan .most, fine-few (a .terms .now) (w .form)), w .fits)
+    ((w .most, fine-few (a .terms .now) (w .form)), w .fits)
 
 same-length : tie.Need-same-length
 same-length c = search needs

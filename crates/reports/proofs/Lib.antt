@@ -1,0 +1,6 @@
+-- Laws of the report's counts.
+pub mod Totals
+pub mod Spikes
+pub mod Residues
+pub mod Counted
+pub mod Decided

@@ -1,0 +1,18 @@
+-- `reports::kind` meets its contract. Assumes nothing.
+use borrow.Author.Needs.{needs}
+use mathlib.Core.Path.{sym, ap, _∙_}
+use Rattle.theory.specs.Lists.{bit}
+use Rattle.reports.specs.Counts.{kindOf}
+use Rattle.reports.proofs.Residues.{change-difference}
+use Rattle.reports.proofs.kind.Statement.{statement}
+use Rattle.reports.proofs.kind.Tie as tie
+
+one-if-requires : tie.Need-one-if-requires
+one-if-requires c κs = search needs
+
+returns : tie.Need-returns
+unfolding kindOf
+returns c = c .one-if .ensures .0 ∙ ap bit (sym (change-difference (c .before .args .raw) (c .before .args .cleaned)))
+
+pub kind-spec : {M : Type 1} → statement M
+kind-spec = tie.close (tie.spec one-if-requires returns)

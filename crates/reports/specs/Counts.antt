@@ -1,0 +1,57 @@
+-- The report's counts of a form and a scan, each the count or the sum of document 01's definition over the residues.
+use Prim.Native.Nat.{ℕ, zero, suc}
+use mathlib.Core.Path.{_≡_}
+use mathlib.Core.Bool.{Bool, true, false}
+use mathlib.Core.List.{List}
+use lib.ListN.{length}
+use lib.IntN.{ℤ, pos, negsuc}
+use Rattle.theory.specs.Lists.{bit, total}
+use Rattle.theory.specs.Signals.{residueAt}
+use Rattle.refusals.specs.declared.Checked.{Checked}
+use Rattle.refusals.specs.declared.Checked.the-variants as checked
+use Rattle.files.specs.Layout.{fileSamples, fileTerms}
+use Rattle.files.specs.Files.{fileChecked}
+use Rattle.reports.specs.declared.Counts.{Counts}
+use Rattle.reports.specs.declared.CountAnswer.{CountAnswer}
+use Rattle.reports.specs.declared.CountAnswer.the-variants as answer
+use Rattle.reports.specs.Runs.{longestRuns}
+
+-- the residue isn't 0
+unfoldable pub isChange : ℤ → Bool
+isChange (pos zero) = false
+isChange (pos (suc n)) = true
+isChange (negsuc n) = true
+
+-- the kind that a spike's samples have in common: the residue isn't 0
+unfoldable pub kindOf : ℤ → ℕ
+kindOf r = bit (isChange r)
+
+-- a positive residue; 0 for another
+unfoldable pub above : ℤ → ℕ
+above (pos n) = n
+above (negsuc n) = 0
+
+-- a negative residue with the sign dropped; 0 for another
+unfoldable pub below : ℤ → ℕ
+below (pos n) = 0
+below (negsuc n) = suc n
+
+-- the counts of n residues: the samples, those that changed, the longest runs of them, and the totals of the positive and of the
+-- negative residues
+unfoldable pub countsOf : ℕ → (ℕ → ℤ) → Counts
+countsOf n residue = record {
+  samples = n;
+  changed = total n (λ x. bit (isChange (residue x)));
+  spikes = longestRuns n (λ x. kindOf (residue x));
+  up = total n (λ x. above (residue x));
+  down = total n (λ x. below (residue x));
+}
+
+-- a count's answer
+abbrev pub countAnswerOf : Checked → Counts → CountAnswer
+countAnswerOf checked.Fine counts = answer.Counted counts
+countAnswerOf (checked.Refused r) counts = answer.Refused r
+
+-- counting from the file f: 11, 7, 8, 9, or the counts of its form on its scan
+pub record WasCounted (f : List ℕ) (a : CountAnswer) : Type 0 where
+  pub answer : a ≡ countAnswerOf (fileChecked f) (countsOf (length (fileSamples f)) (residueAt (fileTerms f) (fileSamples f)))

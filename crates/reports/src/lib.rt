@@ -1,0 +1,147 @@
+// The report's counts: what a form changes of a scan, counted from a scan file.
+//
+// No public function has a `requires`, and nothing is assumed.
+use files::ReadAnswer;
+use refusals::Refusal;
+ghost use mathlib.Core.Path.{_≡_};
+ghost use mathlib.Core.Bool.{_&&_, not};
+ghost use Prim.Native.Nat.{_-_, _≤_};
+ghost use lib.Dec.{eqb};
+ghost use lib.ListN.{length, getD};
+ghost use lib.IntN.{pos, _-ℤ_};
+ghost use Rattle.theory.specs.Lists.{bit};
+ghost use Rattle.theory.specs.Signals.{residueAt};
+ghost use Rattle.refusals.specs.declared.Checked.the-variants.{Fine};
+ghost use Rattle.scans.specs.Run.{runChecked};
+ghost use Rattle.reports.specs.Counts.{kindOf, countsOf, WasCounted};
+
+// What the report prints of a file.
+pub struct Counts {
+    // How many samples the scan has.
+    pub samples: u64,
+    // How many of them have a residue that isn't 0.
+    pub changed: u64,
+    // How many longest runs of neighbouring changed samples there are.
+    pub spikes: u64,
+    // The total of the positive residues.
+    pub up: u64,
+    // The total of the negative residues, with the sign dropped.
+    pub down: u64,
+}
+
+// What a count answers: the five numbers, or why it says no.
+pub enum CountAnswer {
+    Counted(Counts),
+    Refused(Refusal),
+}
+
+// 1 where the test passes, 0 where it does not.
+fn one_if(test: bool) -> u64
+    ensures { λ r. ⌜ (r ≡ bit test) × (r ≤ 1) ⌝ }
+{
+    if test { 1 } else { 0 }
+}
+
+// How far a lies above b; 0 where it does not.
+fn excess(a: u16, b: u16) -> u64
+    ensures { λ r. ⌜ (r ≡ a - b) × (r ≤ 65535) ⌝ }
+{
+    if b < a { (a - b) as u64 } else { 0 }
+}
+
+// The kind that a spike's samples have in common; 0 for a sample that did not change.
+fn kind(raw: u16, cleaned: u16) -> u64
+    ensures { λ r. ⌜ r ≡ kindOf (pos raw -ℤ pos cleaned) ⌝ }
+{
+    one_if(raw != cleaned)
+}
+
+// Whether a run starts at a sample of one kind behind a sample of another.
+fn starts_run(kind: u64, before: u64) -> bool
+    ensures { λ r. ⌜ r ≡ (not (eqb kind 0) && not (eqb kind before)) ⌝ }
+{
+    (kind != 0) & (kind != before)
+}
+
+// The counts of a scan and its cleaned values, of at most 16,384 samples.
+fn tally(scan: &[u16], cleaned: &[u16]) -> Counts
+    requires { ⌜ (length (now scan) ≤ 16384) × (length (now cleaned) ≡ length (now scan)) ⌝ }
+    ensures { λ r. ⌜ r ≡ countsOf (length (now (scan .entry))) (λ x. pos (getD (now (scan .entry)) x 0) -ℤ pos (getD (now (cleaned .entry)) x 0)) ⌝ }
+{
+    let mut changed: u64 = 0;
+    let mut spikes: u64 = 0;
+    let mut up: u64 = 0;
+    let mut down: u64 = 0;
+    let mut before: u64 = 0;
+    let mut x = 0;
+    while x < scan.len() {
+        let raw = scan[x];
+        let value = cleaned[x];
+        let here = kind(raw, value);
+        changed += one_if(raw != value);
+        spikes += one_if(starts_run(here, before));
+        up += excess(raw, value);
+        down += excess(value, raw);
+        before = here;
+        x += 1;
+    }
+    Counts {
+        samples: scan.len() as u64,
+        changed,
+        spikes,
+        up,
+        down,
+    }
+}
+
+// Room for any scan: 16,384 zeros. The `ensures` gives only the length, which lending the array as a slice needs.
+fn room() -> [u16; 16384]
+    ensures { λ r. ⌜ 16384 ≡ length r ⌝ }
+{
+    [0; 16384]
+}
+
+// The counts of a form and a scan that a run accepts, with as many elements lent for the cleaned values.
+fn clean_and_tally(terms: &[u16], scan: &[u16], cleaned: &mut [u16]) -> Counts
+    requires { ⌜ runChecked (now terms) (now scan) (length (now cleaned)) ≡ Fine ⌝ }
+    ensures { λ r. ⌜ r ≡ countsOf (length (now (scan .entry))) (residueAt (now (terms .entry)) (now (scan .entry))) ⌝ }
+{
+    scans::clean(terms, scan, cleaned);
+    tally(scan, cleaned)
+}
+
+// The counts of a form and a scan that a run accepts.
+fn count_scan(terms: &[u16], scan: &[u16]) -> Counts
+    requires { ⌜ runChecked (now terms) (now scan) (length (now scan)) ≡ Fine ⌝ }
+    ensures { λ r. ⌜ r ≡ countsOf (length (now (scan .entry))) (residueAt (now (terms .entry)) (now (scan .entry))) ⌝ }
+{
+    let mut cleaned = room();
+    let n = scan.len();
+    clean_and_tally(terms, scan, &mut cleaned[..n])
+}
+
+// Counts from a file, with room lent for the longest scan and the longest form.
+fn read_and_count(file: &[u8], samples: &mut [u16], terms: &mut [u16]) -> CountAnswer
+    requires { ⌜ (16384 ≤ length (now samples)) × (126 ≤ length (now terms)) ⌝ }
+    ensures { λ r. ⌜ WasCounted (now (file .entry)) r ⌝ }
+{
+    let answer = files::read(file, samples, terms);
+    match answer {
+        ReadAnswer::Read {
+            samples: n,
+            terms: m,
+        } => CountAnswer::Counted(count_scan(&terms[..m], &samples[..n])),
+        ReadAnswer::Refused(refusal) => CountAnswer::Refused(refusal),
+    }
+}
+
+// Counts what the form of a file changes of its scan: the samples, those that changed, the spikes, and the totals of the
+// positive and of the negative residues. Refuses 11 for a file that is badly laid out, 7 and 8 of its terms, and 9 of its
+// samples, in this order.
+pub fn count(file: &[u8]) -> CountAnswer
+    ensures { λ r. ⌜ WasCounted (now (file .entry)) r ⌝ }
+{
+    let mut samples = room();
+    let mut terms = [0u16; 126];
+    read_and_count(file, &mut samples, &mut terms)
+}
