@@ -7,11 +7,12 @@ use Prim.Native.Nat.{ℕ, _+_, _-_, _*_, _/_, _≤_}
 use native.Mathlib.Omega.{arith}
 use lib.ListN.{length, take, drop, length-append}
 use lib.Seq.{take-all}
+use Rattle.theory.proofs.Slices.{parts}
 use Rattle.files.specs.Bytes.{twoBytes, fourBytes, inWords, wordAt, longAt}
 use Rattle.files.specs.Layout.{fileLength, trailer, fileOf, samplesBack, termsBack, termCount, fileSamples, fileTerms}
 use Rattle.files.proofs.Layouts.{Laid, whole, terms-counted, samples-lie, terms-lie}
 use Rattle.files.proofs.Stores.{length-in-words, length-file}
-use Rattle.files.proofs.Words.{Bytes, word-behind, long-behind, words-back, parts, word-bytes, long-bytes, words-bytes}
+use Rattle.files.proofs.Words.{Bytes, word-behind, long-behind, words-back, word-bytes, long-bytes, words-bytes}
 
 -- ---- the file of a form and a scan
 

@@ -7,19 +7,17 @@ use mathlib.Core.List.{List, _++_}
 use Prim.Native.Nat.{ℕ, _≤_}
 use native.Mathlib.Omega.{arith}
 use lib.ListN.{length, take, drop}
-use Rattle.refusals.specs.Refusals.{written}
 use Rattle.refusals.specs.declared.Answer.{Answer}
 use Rattle.refusals.specs.declared.Answer.the-variants as answer
-use Rattle.refusals.specs.declared.Checked.{Checked}
 use Rattle.refusals.specs.declared.Checked.the-variants as checked
-use Rattle.refusals.proofs.Checks.{done-fine}
+use Rattle.refusals.proofs.Checks.{done-fine, written-whole}
 use Rattle.forms.proofs.Fine.{fine-few}
 use Rattle.files.specs.declared.ReadAnswer.{ReadAnswer}
 use Rattle.files.specs.declared.ReadAnswer.the-variants as read
 use Rattle.files.specs.Layout.{laidWell, fileOf, fileSamples, fileTerms}
 use Rattle.files.specs.Files.{fileChecked, writeChecked, WasRead, Wrote}
 use Rattle.files.proofs.Layouts.{well-laid, whole}
-use Rattle.files.proofs.Stores.{length-file, nothing-left}
+use Rattle.files.proofs.Stores.{length-file}
 use Rattle.files.proofs.Accepts.{fine-file, file-fine, Readable, Writable, read-fine, fine-write, write-fine}
 use Rattle.files.proofs.Held.{held}
 use Rattle.files.proofs.Words.{Bytes}
@@ -59,7 +57,7 @@ pub written-reads-back : {form scan old file samples samples′ terms terms′ :
 written-reads-back {form} {scan} {old} {file} {samples} {samples′} {terms} {terms′} {n} {a} w r room room′ =
     let e = done-fine (writeChecked form scan (length old)) (length (fileOf form scan)) n (w .answer) .0 in
     let fits : length old ≤ length (fileOf form scan) = omega (arith, length-file form scan, fine-write form scan (length old) e .fits) in
-    let same : file ≡ fileOf form scan = w .out ∙ ap (λ (c : Checked). written c (fileOf form scan) old) e ∙ nothing-left (fileOf form scan) old fits in
+    let same : file ≡ fileOf form scan = w .out ∙ written-whole (fileOf form scan) old e fits in
     let s : fileSamples file ≡ scan = ap fileSamples same ∙ samples-of form scan in
     let t : fileTerms file ≡ form = ap fileTerms same ∙ terms-of form scan in
     let readable : Readable file = rw same (written-readable form scan (length old) e) in
@@ -83,7 +81,7 @@ read-writes-back {f} {samples} {samples′} {terms} {terms′} {old} {new} {m} {
       fits = long ∙ whole f laid;
     }) in
     let fine = write-fine (take n terms′) (take m samples′) (length old) sound in
-    (rw (fine, file) at (w .answer), (rw (fine, file) at (w .out)) ∙ nothing-left f old (omega arith))
+    (rw (fine, file) at (w .answer), (rw (fine, file) at (w .out)) ∙ written-whole f old refl (omega arith))
 
 -- ---- over the calls: two files that read alike are one
 

@@ -1,36 +1,14 @@
--- Runs of stores: one after another they are one, and one that covers a list leaves nothing of it. How long what is stored is.
+-- How long what is stored is, and that the writer's stores make the file.
 -- Assumes nothing.
 use mathlib.Core.Path.{_≡_, refl, sym, ap, _∙_}
-use mathlib.Core.List.{List, [], _∷_, _++_, append-nil}
-use Prim.Native.Nat.{ℕ, suc, _+_, _*_, _≤_}
-use native.Mathlib.Nat.{add-zero}
+use mathlib.Core.List.{List, [], _∷_, _++_}
+use Prim.Native.Nat.{ℕ, _+_, _*_}
 use native.Mathlib.Omega.{arith}
-use lib.ListN.{length, drop, set, length-append, drop-of-length-le}
-use lib.Seq.{sets, sets-eq}
+use lib.ListN.{length, length-append}
+use lib.Seq.{sets}
+use Rattle.theory.proofs.Slices.{sets-next, sets-three, sets-whole}
 use Rattle.files.specs.Bytes.{twoBytes, fourBytes, inWords}
 use Rattle.files.specs.Layout.{fileLength, trailer, fileOf}
-
-module _ {A : Type 0} where
-  pub sets-append : (l : List A) (i : ℕ) (vs ws : List A) → sets (sets l i vs) (i + length vs) ws ≡ sets l i (vs ++ ws)
-  sets-append l i [] ws = ap (λ (k : ℕ). sets l k ws) (add-zero i)
-  sets-append l i (v ∷ vs) ws =
-      let e : i + suc (length vs) ≡ suc i + length vs = omega arith in
-      ap (λ (k : ℕ). sets (sets (set l i v) (suc i) vs) k ws) e ∙ sets-append (set l i v) (suc i) vs ws
-
-  -- the same, where the seam's place is known only by an equation
-  pub sets-next : (l : List A) (i k : ℕ) (vs ws : List A) → i + length vs ≡ k → sets (sets l i vs) k ws ≡ sets l i (vs ++ ws)
-  sets-next l i k vs ws e = rw (← e) (sets-append l i vs ws)
-
-  pub sets-three : (l : List A) (i j k : ℕ) (us vs ws : List A) → i + length us ≡ j → j + length vs ≡ k → sets (sets (sets l i us) j vs) k ws ≡ sets l i (us ++ vs ++ ws)
-  sets-three l i j k us vs ws p q =
-      ap (λ (m : List A). sets m k ws) (sets-next l i j us vs p) ∙ sets-next l i k (us ++ vs) ws (omega (arith, length-append us vs))
-
-  pub sets-whole : (l vs : List A) → length vs ≡ length l → sets l 0 vs ≡ vs
-  sets-whole l vs e = sets-eq vs l 0 (omega arith) ∙ rw (drop-of-length-le l {i = 0 + length vs} (omega arith)) (append-nil vs)
-
-  -- as long as what it replaces, an answer is the whole slice
-  pub nothing-left : (new old : List A) → length old ≤ length new → new ++ drop (length new) old ≡ new
-  nothing-left new old h = rw (drop-of-length-le old h) (append-nil new)
 
 -- ---- lengths
 

@@ -7,9 +7,10 @@ use native.Mathlib.Nat.{le-of-suc-le-suc, not-suc-le-zero}
 use native.Mathlib.Numerals.{add-one}
 use native.Mathlib.Omega.{arith}
 use lib.ListN.{length, getD, take, drop}
-use lib.Seq.{drop-cons, take-add, drop-drop, getD-append-add, ext-getD}
+use lib.Seq.{drop-cons, getD-append-add, ext-getD}
 use Rattle.theory.specs.Lists.{tab}
 use Rattle.theory.proofs.Lists.{tab-suc, getD-tab}
+use Rattle.theory.proofs.Slices.{parts}
 use Rattle.files.specs.Bytes.{twoBytes, fourBytes, inWords, wordAt, longAt, wordsFrom}
 use Rattle.files.proofs.Layouts.{length-words}
 
@@ -52,10 +53,6 @@ words-back p xs q =
     getD-tab 0 (length xs) (λ k. wordAt f (length p + 2 * k)) i l ∙ word-behind p (inWords xs ++ q) (2 * i) ∙ word-in xs q i l)
 
 -- ---- bytes that are read are written as themselves
-
--- two parts that meet are one
-pub parts : {A : Type 0} (l : List A) (i j m n : ℕ) → i + m ≡ j → take m (drop i l) ++ take n (drop j l) ≡ take (m + n) (drop i l)
-parts l i j m n e = rw (← e, ← drop-drop m i l) (sym (take-add m n (drop i l)))
 
 in-words-append : (xs ys : List ℕ) → inWords (xs ++ ys) ≡ inWords xs ++ inWords ys
 unfolding inWords

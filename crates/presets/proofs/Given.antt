@@ -9,11 +9,11 @@ use borrow.Author.Tests.{le-ltb}
 use Rattle.theory.specs.Sets.{has}
 use Rattle.theory.specs.Forms.{Positive}
 use Rattle.theory.specs.Tables.{tableOf}
+use Rattle.theory.proofs.Tables.{positive-part}
 use Rattle.refusals.specs.declared.Answer.{Answer}
 use Rattle.tables.specs.Tables.{Formed}
 use Rattle.tables.proofs.Tabulated.{tabulated-answer, tabulated-out}
 use Rattle.presets.specs.Presets.{presetTables, widened, presetForm, presetChecked, Preset}
-use Rattle.presets.proofs.Wide.{positive-part}
 use Rattle.presets.proofs.Rule.{entry-positive}
 
 -- the function of each preset is positive

@@ -1,21 +1,19 @@
 -- The rule of the twenty tables, by one computed test: they are the 8-bit tables that are positive on three samples, every one, ascending.
 -- Assumes nothing.
 use mathlib.Core.Path.{_≡_, refl, sym, subst}
-use mathlib.Core.Bool.{Bool, true, false, not}
+use mathlib.Core.Bool.{Bool, not}
 use mathlib.Core.List.{List, List·Memᴰ}
-use mathlib.Core.Logic.{_⊎_, inl, inr}
-use Prim.Native.Nat.{ℕ, zero, suc, _<_, zero-le}
-use native.Mathlib.Nat.{le-of-suc-le-suc, not-suc-le-zero}
+use Prim.Native.Nat.{ℕ, _<_, zero-le}
 use native.Mathlib.Omega.{arith}
 use lib.ListN.{length, getD}
 use borrow.Author.Tests.{not-true}
-use Rattle.theory.specs.Lists.{any, put, keep, from, first, some}
+use Rattle.theory.specs.Lists.{any, keep, from, first, some}
 use Rattle.theory.specs.Sets.{has, with-place}
 use Rattle.theory.specs.Forms.{Positive}
 use Rattle.theory.specs.Tables.{slips}
-use Rattle.theory.proofs.Tests.{which}
-use Rattle.theory.proofs.Lists.{keep-mem, keep-at, from-mem, from-at, index-mem}
-use Rattle.tables.proofs.Positives.{fine-positive, positive-fine}
+use Rattle.theory.proofs.Lists.{keep-mem, keep-at, from-mem, index-mem}
+use Rattle.theory.proofs.Keeps.{keep-rises}
+use Rattle.theory.proofs.Tables.{fine-positive, positive-fine}
 use Rattle.presets.specs.Presets.{presetTables}
 
 -- no pattern of three samples on which one more turns 1 to 0
@@ -28,23 +26,6 @@ unfolding presetTables steady keep from some first slips any has with-place
 rule = refl
 
 -- ---- what it says
-
--- what is kept of ascending numbers ascends
-keep-rises : (p : ℕ → Bool) (a n i j : ℕ) → i < j → j < length (keep p (from a n)) → getD (keep p (from a n)) i 0 < getD (keep p (from a n)) j 0
-unfolding keep from
-keep-rises p a zero i j l h = absurd (not-suc-le-zero h)
-keep-rises p a (suc n) i j l h = go (which (p a)) (keep-rises p (suc a) n) i j l h
-  where
-    rest : List ℕ
-    rest = keep p (from (suc a) n)
-
-    go : (p a ≡ true) ⊎ (p a ≡ false) → ((i j : ℕ) → i < j → j < length rest → getD rest i 0 < getD rest j 0)
-        → (i j : ℕ) → i < j → j < length (put (p a) a rest) → getD (put (p a) a rest) i 0 < getD (put (p a) a rest) j 0
-    go (inr e) ih i j l h = rw e (ih i j l (rw e at h))
-    go (inl e) ih i zero l h = absurd (not-suc-le-zero l)
-    go (inl e) ih zero (suc j) l h =
-        rw e (omega (arith, from-at (suc a) n (keep-at p (from (suc a) n) (index-mem 0 rest j (le-of-suc-le-suc (rw e at h))) .0)))
-    go (inl e) ih (suc i) (suc j) l h = rw e (ih i j (le-of-suc-le-suc l) (le-of-suc-le-suc (rw e at h)))
 
 -- the tables ascend
 pub ascending : (i j : ℕ) → i < j → j < 20 → getD presetTables i 0 < getD presetTables j 0

@@ -2,27 +2,25 @@
 -- Assumes nothing.
 use mathlib.Core.Path.{_≡_, refl, sym, ap, ap₂, _∙_}
 use mathlib.Core.Bool.{true}
-use mathlib.Core.List.{List, [], _∷_, List·Memᴰ·head}
 use Prim.Native.Nat.{ℕ, _≤_}
 use native.Mathlib.Omega.{arith}
 use lib.IntN.{ℤ, pos, negsuc, negℤ, _+ℤ_, _-ℤ_, +ℤ-assoc, +ℤ-comm, negℤ-+ℤ, negℤ-negℤ}
 use lib.Signed.{leZ, mag}
 use borrow.Author.Tests.{leb-true}
-use Rattle.theory.specs.Orders.{larger, smaller, least, greatest, ints}
+use Rattle.theory.specs.Orders.{ints}
 use Rattle.theory.specs.Signals.{row, nine}
-use Rattle.theory.specs.Plans.{Plan, scan, near, upper, lower, leftmost, rightmost, lo, hi}
+use Rattle.theory.specs.Plans.{Plan, scan, upper, lower, leftmost, rightmost, lo, hi}
 use Rattle.theory.specs.Recipes as theory
 use Rattle.theory.specs.Recipes.{signal, one, join, meet, offsets, eroded, dilated, on-one, plans}
 use Rattle.theory.proofs.Tests.{and-left, and-right}
-use Rattle.theory.proofs.Orders.{smaller-left, larger-left, least-le, le-greatest}
-use Rattle.theory.proofs.Ints.{leZ-add}
+use Rattle.theory.proofs.Plans.{lo-hi}
+use Rattle.theory.proofs.Offsets.{leftmost-neg, rightmost-neg}
 use Rattle.recipes.specs.declared.Reach.{Reach}
 use Rattle.recipes.specs.declared.Step.{Step}
 use Rattle.recipes.specs.declared.Step.the-variants.{Signal, Erode, Dilate, Open, Close, Rank, Median, Larger, Smaller}
 use Rattle.recipes.specs.Steps.{meant}
 use Rattle.recipes.specs.Reaches.{reachOf, stays, Little, minOf, maxOf, erodedReach, dilatedReach, openedReach, joinedReach, taken, reachLeft}
 use Rattle.recipes.specs.Judge.{inReach}
-use Rattle.recipes.proofs.Offsets.{leftmost-neg, rightmost-neg}
 
 -- ---- the column, row by row
 
@@ -87,28 +85,6 @@ reach-made Larger e f q r h k = ap₂ joinedReach (h (omega arith)) (k (omega ar
 reach-made Smaller e f q r h k = ap₂ joinedReach (h (omega arith)) (k (omega arith)) ∙ sym (reach-table Smaller e f)
 
 -- ---- the bounds of a reach
-
-left-right : (bs : List ℤ) → leZ (leftmost bs) (rightmost bs) ≡ true
-unfolding leftmost rightmost ints
-left-right [] = unfold least greatest in refl
-left-right (b ∷ bs) =
-    ints .trans (leftmost (b ∷ bs)) b (rightmost (b ∷ bs))
-    (least-le ints (pos 0) (λ z. z) (b ∷ bs) (List·Memᴰ·head refl))
-    (le-greatest ints (pos 0) (λ z. z) (b ∷ bs) (List·Memᴰ·head refl))
-
--- of two reaches the least lo is at most the greatest hi
-joined-up : (l m h k : ℤ) → leZ l h ≡ true → leZ (smaller ints l m) (larger ints h k) ≡ true
-unfolding ints
-joined-up l m h k e =
-    ints .trans (smaller ints l m) l (larger ints h k) (smaller-left ints l m) (ints .trans l h (larger ints h k) e (larger-left ints h k))
-
--- a plan's reach goes from its least to its greatest
-pub lo-hi : (e : Plan) → leZ (lo e) (hi e) ≡ true
-unfolding lo hi
-lo-hi scan = refl
-lo-hi (near p bs e) = leZ-add (leftmost bs) (rightmost bs) (lo e) (hi e) (left-right bs) (lo-hi e)
-lo-hi (upper a b) = joined-up (lo a) (lo b) (hi a) (hi b) (lo-hi a)
-lo-hi (lower a b) = joined-up (lo a) (lo b) (hi a) (hi b) (lo-hi a)
 
 between : (z : ℤ) → leZ (negsuc 3) z ≡ true → leZ z (pos 4) ≡ true → mag z ≤ 4
 between (pos n) p q = leb-true n 4 q

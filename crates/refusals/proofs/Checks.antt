@@ -1,10 +1,12 @@
--- What an order of refusals tells where it finds nothing.
+-- What an order of refusals tells where it finds nothing, and what a slice then holds.
 -- Assumes nothing.
-use Prim.Native.Nat.{ℕ}
+use Prim.Native.Nat.{ℕ, _≤_}
 use native.Mathlib.Omega.{arith}
 use mathlib.Core.Path.{_≡_, refl}
 use mathlib.Core.Bool.{Bool, true, false}
-use Rattle.refusals.specs.Refusals.{refuseIf, orElse, answerOf}
+use mathlib.Core.List.{List, append-nil}
+use lib.ListN.{length, drop-of-length-le}
+use Rattle.refusals.specs.Refusals.{refuseIf, orElse, answerOf, written}
 use Rattle.refusals.specs.declared.Refusal.{Refusal}
 use Rattle.refusals.specs.declared.Checked.{Checked}
 use Rattle.refusals.specs.declared.Checked.the-variants.{Fine, Refused}
@@ -27,3 +29,7 @@ or-else-fine (Refused r) b e = refused-fine r e
 pub done-fine : (c : Checked) (m n : ℕ) → Done n ≡ answerOf c m → (c ≡ Fine) × (n ≡ m)
 done-fine Fine m n e = (refl, cc)
 done-fine (Refused r) m n e = let z : _≡_ {A = ℕ} 0 1 = cc in absurd (omega arith)
+
+-- an answer as long as the slice that it is written to is the whole of it
+pub written-whole : {A : Type 0} {c : Checked} (new old : List A) → c ≡ Fine → length old ≤ length new → written c new old ≡ new
+written-whole new old e h = rw (e, drop-of-length-le old h) (append-nil new)

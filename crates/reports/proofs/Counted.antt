@@ -9,19 +9,17 @@ use lib.IntN.{ℤ, pos, _-ℤ_}
 use Rattle.theory.specs.Lists.{bit}
 use Rattle.theory.specs.Signals.{filteredAt, cleaned, residueAt}
 use Rattle.theory.proofs.Lists.{length-tab, getD-tab}
-use Rattle.refusals.specs.Refusals.{written}
 use Rattle.refusals.specs.declared.Answer.{Answer}
 use Rattle.refusals.specs.declared.Checked.{Checked}
 use Rattle.refusals.specs.declared.Checked.the-variants.{Fine, Refused}
 use Rattle.refusals.specs.Limits.{scanChecked, lentChecked}
-use Rattle.refusals.proofs.Checks.{or-else-fine}
+use Rattle.refusals.proofs.Checks.{or-else-fine, written-whole}
 use Rattle.refusals.proofs.Limits.{scan-fine, fine-scan, lent-fine, fine-lent}
 use Rattle.forms.specs.Check.{formChecked}
 use Rattle.forms.proofs.Fine.{fine-few}
 use Rattle.scans.specs.Run.{runChecked, Ran}
 use Rattle.files.specs.Layout.{fileSamples, fileTerms}
 use Rattle.files.specs.Files.{fileChecked, readChecked}
-use Rattle.files.proofs.Stores.{nothing-left}
 use Rattle.files.proofs.Accepts.{Readable, fine-file, slices-fine}
 use Rattle.reports.specs.Counts.{isChange, kindOf, above, below, countsOf}
 use Rattle.reports.proofs.Totals.{total-cong}
@@ -48,7 +46,7 @@ unfolding cleaned
 run-cleaned form scan old new a r e =
     let n = length-tab (length scan) (filteredAt form scan) in
     let fit = run-most form scan (length old) e .1 in
-    r .out ∙ ap (λ (c : Checked). written c (cleaned form scan) old) e ∙ nothing-left (cleaned form scan) old (omega arith)
+    r .out ∙ written-whole (cleaned form scan) old e (omega arith)
 
 -- room for the longest scan and the longest form is enough
 pub room-enough : (f : List ℕ) (samples terms : ℕ) → 16384 ≤ samples → 126 ≤ terms → readChecked f samples terms ≡ fileChecked f

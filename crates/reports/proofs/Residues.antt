@@ -1,46 +1,38 @@
 -- The difference of two counts as a residue: when it is a change, and how far it lies above or below 0.
 -- Assumes nothing.
-use mathlib.Core.Path.{_≡_, ap}
+use mathlib.Core.Path.{_≡_}
 use mathlib.Core.Bool.{true, false, not}
 use mathlib.Core.Logic.{_⊎_, inl, inr}
-use Prim.Native.Nat.{ℕ, zero, suc, _-_, _≤_, _<_}
+use Prim.Native.Nat.{ℕ, suc, _-_, _≤_, _<_}
 use native.Mathlib.Omega.{arith}
 use lib.Dec.{eqb}
-use lib.IntN.{pos, negsuc, _-ℤ_}
+use lib.IntN.{pos, _-ℤ_}
 use borrow.Author.Tests.{eqb-true, eqb-false, ne-eqb}
 use Rattle.theory.proofs.Tests.{which}
-use Rattle.theory.proofs.Signals.{sub-low, sub-high, side}
+use Rattle.theory.proofs.Differences.{side, minus-high, minus-low}
 use Rattle.reports.specs.Counts.{isChange, above, below}
-
-pub difference-high : (a b : ℕ) → b ≤ a → pos a -ℤ pos b ≡ pos (a - b)
-difference-high a zero h = ap pos (omega arith)
-difference-high a (suc n) h = sub-high a (suc n) h
-
-pub difference-low : (a b : ℕ) → a < b → pos a -ℤ pos b ≡ negsuc (b - suc a)
-difference-low a zero h = absurd (omega arith)
-difference-low a (suc n) h = sub-low a (suc n) h
 
 pub change-difference : (a b : ℕ) → isChange (pos a -ℤ pos b) ≡ not (eqb a b)
 unfolding isChange
 change-difference a b = go (side a b) (which (eqb a b))
   where
     go : (a < b) ⊎ (b ≤ a) → (eqb a b ≡ true) ⊎ (eqb a b ≡ false) → isChange (pos a -ℤ pos b) ≡ not (eqb a b)
-    go (inl l) e = rw (difference-low a b l, ne-eqb a b (λ q. omega arith))
-    go (inr l) (inl e) = let z : a - b ≡ 0 = omega (arith, eqb-true a b e) in rw (difference-high a b l, z, e)
-    go (inr l) (inr e) = let ne : a ≡ b → ⊥ = eqb-false a b e in let z : a - b ≡ suc (a - suc b) = omega arith in rw (difference-high a b l, z, e)
+    go (inl l) e = rw (minus-low a b l, ne-eqb a b (λ q. omega arith))
+    go (inr l) (inl e) = let z : a - b ≡ 0 = omega (arith, eqb-true a b e) in rw (minus-high a b l, z, e)
+    go (inr l) (inr e) = let ne : a ≡ b → ⊥ = eqb-false a b e in let z : a - b ≡ suc (a - suc b) = omega arith in rw (minus-high a b l, z, e)
 
 pub above-difference : (a b : ℕ) → above (pos a -ℤ pos b) ≡ a - b
 unfolding above
 above-difference a b = go (side a b)
   where
     go : (a < b) ⊎ (b ≤ a) → above (pos a -ℤ pos b) ≡ a - b
-    go (inl l) = rw (difference-low a b l) (omega arith)
-    go (inr l) = rw (difference-high a b l)
+    go (inl l) = rw (minus-low a b l) (omega arith)
+    go (inr l) = rw (minus-high a b l)
 
 pub below-difference : (a b : ℕ) → below (pos a -ℤ pos b) ≡ b - a
 unfolding below
 below-difference a b = go (side a b)
   where
     go : (a < b) ⊎ (b ≤ a) → below (pos a -ℤ pos b) ≡ b - a
-    go (inl l) = rw (difference-low a b l) (omega arith)
-    go (inr l) = rw (difference-high a b l) (omega arith)
+    go (inl l) = rw (minus-low a b l) (omega arith)
+    go (inr l) = rw (minus-high a b l) (omega arith)

@@ -1,12 +1,9 @@
 -- The walks on counts of at most 65,535: the smallest that a term reaches, and the largest of those.
 -- Assumes nothing.
-use mathlib.Core.Path.{_≡_, sym, ap, ap₂, _∙_}
+use mathlib.Core.Path.{_≡_, sym, ap₂, _∙_}
 use mathlib.Core.Bool.{true, cond}
 use mathlib.Core.List.{List}
-use Prim.Native.Nat.{ℕ, zero, suc, _+_, _/_, _%_, _^_, _≤_, _<_, zero-le}
-use native.Mathlib.Nat.{pow-suc, div-div-eq-div-mul}
-use native.Mathlib.Omega.{arith}
-use lib.Dec.{eqb}
+use Prim.Native.Nat.{ℕ, _+_, _≤_, _<_, zero-le}
 use lib.ListN.{length, getD, drop}
 use borrow.Author.Tests.{le-leb}
 use Rattle.theory.specs.Sets.{has, places}
@@ -15,13 +12,7 @@ use Rattle.theory.specs.Forms.{value}
 use Rattle.theory.proofs.Orders.{StrictOn, counts-strict}
 use Rattle.theory.proofs.Demands.{Samples}
 use Rattle.scans.specs.Window.{sample, smallestIn}
-use Rattle.scans.proofs.Walks.{least-one, least-split, greatest-start, greatest-turn, greatest-end}
-
--- position i of a term, as the code tests it
-pub has-shift : (term i : ℕ) → has term i ≡ eqb (term / 2 ^ i % 2) 1
-unfolding has
-has-shift term zero = let z : term / 2 ^ 0 ≡ term = omega arith in rw z
-has-shift term (suc i) = has-shift (term / 2) i ∙ ap (λ (q : ℕ). eqb (q % 2) 1) (div-div-eq-div-mul term 2 (2 ^ i) ∙ ap (λ (b : ℕ). term / b) (omega (arith, pow-suc 2 i)))
+use Rattle.theory.proofs.Walks.{least-one, least-split, greatest-start, greatest-turn, greatest-end}
 
 strict : StrictOn counts (λ n. Unit {0})
 strict a b p q = counts-strict a b

@@ -3,13 +3,13 @@
 use Prim.Native.Nat.{ℕ}
 use native.Mathlib.Omega.{arith}
 use mathlib.Core.Path.{_≡_, sym}
-use mathlib.Core.List.{List, append-nil}
-use lib.ListN.{length, drop-of-length-le}
+use mathlib.Core.List.{List}
+use lib.ListN.{length}
 use Rattle.theory.specs.Forms.{Valid}
 use Rattle.refusals.specs.Refusals.{written}
 use Rattle.refusals.specs.Limits.{scanChecked}
 use Rattle.refusals.specs.declared.Checked.the-variants.{Fine}
-use Rattle.refusals.proofs.Checks.{or-else-fine}
+use Rattle.refusals.proofs.Checks.{or-else-fine, written-whole}
 use Rattle.refusals.proofs.Limits.{lent-fine}
 use Rattle.forms.specs.Check.{formChecked}
 use Rattle.forms.proofs.Fine.{fine-form}
@@ -31,4 +31,4 @@ run-fine ts s lent e =
 pub run-written : {A : Type 0} (ts s : List ℕ) {new : List A} (old : List A) → runChecked ts s (length old) ≡ Fine → length new ≡ length s → new ≡ written (runChecked ts s (length old)) new old
 run-written ts s {new} old e h =
     let same = run-fine ts s (length old) e .1 in
-    rw (e, drop-of-length-le old {i = length new} (omega arith)) (sym (append-nil new))
+    sym (written-whole new old e (omega arith))

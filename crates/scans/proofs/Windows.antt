@@ -11,11 +11,11 @@ use Rattle.theory.specs.Orders.{counts}
 use Rattle.theory.specs.Forms.{Valid, value}
 use Rattle.theory.specs.Signals.{nine, endlessScan, filteredAt}
 use Rattle.theory.proofs.Lists.{getD-tab}
+use Rattle.theory.proofs.Forms.{value-agree}
 use Rattle.theory.proofs.Canon.{valid-terms}
 use Rattle.theory.proofs.Signals.{held-seen}
 use Rattle.theory.proofs.Demands.{Samples, filtered-value}
 use Rattle.scans.specs.Window.{view, sample}
-use Rattle.scans.proofs.Walks.{value-agree}
 
 -- position i is the sample at x + i - 4, held between the first and the last
 pub view-is : (s : List ℕ) (x i j : ℕ) → j ≡ min (x + i - 4) (length s - 1) → getD s j 0 ≡ view s x i

@@ -4,15 +4,15 @@ use Prim.Native.Nat.{ℕ, _≤_}
 use native.Mathlib.Omega.{arith}
 use mathlib.Core.Path.{_≡_, refl}
 use mathlib.Core.Bool.{false, not}
-use mathlib.Core.List.{List, _++_, append-nil}
+use mathlib.Core.List.{List, _++_}
 use lib.Dec.{eqb}
-use lib.ListN.{length, drop, drop-of-length-le}
+use lib.ListN.{length, drop}
 use borrow.Author.Tests.{eqb-true, eq-eqb, not-false}
 use Rattle.theory.specs.Lists.{some}
 use Rattle.theory.specs.Tables.{tableAt, tableOf, slips}
 use Rattle.theory.proofs.Lists.{length-tab}
 use Rattle.refusals.specs.declared.Checked.the-variants.{Fine}
-use Rattle.refusals.proofs.Checks.{refuse-no, or-else-fine}
+use Rattle.refusals.proofs.Checks.{refuse-no, or-else-fine, written-whole}
 use Rattle.refusals.proofs.Limits.{room-fine, fine-room}
 use Rattle.forms.specs.Check.{formChecked}
 use Rattle.tables.specs.Tables.{bytesChecked, positiveChecked, formIn, tableIn, tableChecked, formTabledChecked}
@@ -63,6 +63,4 @@ table-length ts = length-tab 64 _
 
 -- the table fills the whole of a slice of 64 bytes
 pub table-fills : (ts old : List ℕ) → length old ≡ 64 → tableIn ts ++ drop (length (tableIn ts)) old ≡ tableIn ts
-table-fills ts old h =
-    let all : length old ≤ length (tableIn ts) = omega (arith, table-length ts) in
-    rw (drop-of-length-le old all, append-nil)
+table-fills ts old h = written-whole (tableIn ts) old refl (omega (arith, table-length ts))

@@ -17,9 +17,8 @@ use Rattle.refusals.specs.declared.Answer.the-variants.{Done}
 use Rattle.refusals.proofs.Checks.{done-fine}
 use Rattle.forms.proofs.Fine.{fine-form, form-fine}
 use Rattle.tables.specs.Tables.{formIn, tableIn, tableChecked, formTabledChecked, Formed, Tabled}
-use Rattle.tables.proofs.Values.{table-same}
+use Rattle.theory.proofs.Tables.{table-same, fine-positive}
 use Rattle.tables.proofs.Tabulated.{tabulated-form, tabulated-steady}
-use Rattle.tables.proofs.Positives.{fine-positive}
 use Rattle.tables.proofs.Accepted.{fine-table, table-fine, fine-tabled, tabled-fine, table-length, table-fills}
 
 -- a form is the form of its table

@@ -1,13 +1,6 @@
--- Laws that the table calls rest on, and what is shown of the calls.
-pub mod Places
-pub mod Searches
-pub mod Bytes
-pub mod Keeps
-pub mod Positives
-pub mod Minimal
+-- What is shown of the table calls.
 pub mod Accepted
 pub mod Twelve
-pub mod Values
 pub mod Tabulated
 pub mod Inverse
 pub mod Decided

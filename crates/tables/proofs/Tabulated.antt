@@ -18,8 +18,7 @@ use Rattle.refusals.specs.Limits.{roomChecked}
 use Rattle.refusals.specs.declared.Checked.{Checked}
 use Rattle.refusals.specs.declared.Answer.{Answer}
 use Rattle.tables.specs.Tables.{bytesChecked, positiveChecked, formIn, tableChecked, Formed}
-use Rattle.tables.proofs.Values.{table-value}
-use Rattle.tables.proofs.Positives.{positive-fine}
+use Rattle.theory.proofs.Tables.{table-value, positive-fine}
 
 module _ (f : ℕ → Bool) where
   value : (v : ℕ) → v < 512 → tableAt (tableOf 64 f) v ≡ f v

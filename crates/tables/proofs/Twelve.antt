@@ -19,7 +19,7 @@ use Rattle.refusals.specs.declared.Refusal.the-variants.{TermsLent, NotPositive
 use Rattle.refusals.specs.declared.Answer.{Answer}
 use Rattle.refusals.specs.declared.Answer.the-variants.{Refused}
 use Rattle.tables.specs.Tables.{bytesChecked, positiveChecked, formIn, tableChecked, Formed}
-use Rattle.tables.proofs.Positives.{fine-positive, positive-fine}
+use Rattle.theory.proofs.Tables.{fine-positive, positive-fine}
 
 -- not positive, and v is the first slip
 pub record Slipping (tb : List ℕ) (v : ℕ) : Type 0 where

@@ -1,20 +1,20 @@
 -- Demand 3 for the base's scans: the form of a plan filters every scan as the plan means, and two plans have one form exactly where they
 -- agree on every scan of 1 to 16,384 samples. And demand 2's count of levels as the largest of the smallest.
 -- Assumes nothing.
-use mathlib.Core.Path.{_≡_, refl, sym, ap, _∙_}
-use mathlib.Core.Bool.{Bool, true, false}
+use mathlib.Core.Path.{_≡_, _∙_}
+use mathlib.Core.Bool.{Bool}
 use mathlib.Core.List.{List}
-use Prim.Native.Nat.{ℕ, _+_, _*_, _-_, _^_, _≤_, _<_, min}
+use Prim.Native.Nat.{ℕ, _*_, _-_, _≤_, _<_, min}
 use native.Mathlib.Omega.{arith}
 use lib.IntN.{ℤ, pos, negsuc, _+ℤ_}
 use lib.ListN.{length, getD}
-use Rattle.theory.specs.Lists.{bit, tab}
+use Rattle.theory.specs.Lists.{bit}
 use Rattle.theory.specs.Sets.{has}
 use Rattle.theory.specs.Orders.{counts}
-use Rattle.theory.specs.Forms.{Valid, value, levels, formOf}
+use Rattle.theory.specs.Forms.{value, levels, formOf}
 use Rattle.theory.specs.Signals.{held, endless, Scan, endlessScan, nine, row, seen, filteredAt}
 use Rattle.theory.specs.Plans.{Plan, meaning, truth}
-use Rattle.theory.proofs.Lists.{length-tab, getD-tab-default}
+use Rattle.theory.proofs.Lists.{length-tab, getD-tab-default, bit-lt, tally-le}
 use Rattle.theory.proofs.Orders.{counts-strict}
 use Rattle.theory.proofs.Forms.{Terms, levels-value}
 use Rattle.theory.proofs.Canon.{form-valid, valid-terms}
@@ -36,6 +36,11 @@ pub filtered-value : (F s : List ℕ) → Terms 9 F → Samples s → (x : ℕ)
     → filteredAt F s x ≡ value counts 9 0 65535 F (seen nine (endlessScan s) (pos x))
 unfolding filteredAt seen
 filtered-value F s ok h x = levels-value 9 65535 F _ ok (λ i. endless-small s h (pos x +ℤ nine .offset i))
+
+-- every filtered value is 0 to 65,535
+pub filtered-le : (F s : List ℕ) (x : ℕ) → filteredAt F s x ≤ 65535
+unfolding filteredAt levels
+filtered-le F s x = tally-le 65535 _
 
 pub plan-filter : (e : Plan) → Fits nine e → (s : List ℕ) → Samples s → (x : ℕ)
     → filteredAt (formOf 9 (truth nine e)) s x ≡ meaning counts e (endlessScan s) (pos x)
@@ -64,8 +69,7 @@ module _ (e e′ : Plan) (ok : Fits nine e) (ok′ : Fits nine e′) where
       shown-length v = unfold shown in length-tab 9 (λ i. 1 * bit (has v i))
 
       bit-small : (b : Bool) → 1 * bit b ≤ 65535
-      bit-small true = unfold bit in omega arith
-      bit-small false = unfold bit in omega arith
+      bit-small b = omega (arith, bit-lt b)
 
       is-scan : (v : ℕ) → Scan (shown 9 1 v)
       is-scan v = record {

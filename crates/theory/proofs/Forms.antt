@@ -7,12 +7,11 @@ use Prim.Native.Nat.{ℕ, _^_, _≤_, _<_, zero-le}
 use native.Mathlib.Omega.{arith}
 use lib.Dec.{leb}
 use borrow.Author.Tests.{le-leb, lt-leb}
-use Rattle.theory.specs.Lists.{tally}
 use Rattle.theory.specs.Sets.{gather, places}
 use Rattle.theory.specs.Orders.{Order, greatest, least, bools, counts}
 use Rattle.theory.specs.Forms.{holds, cut, value, levels}
 use Rattle.theory.proofs.Lists.{any-cong, tally-cong, tally-below}
-use Rattle.theory.proofs.Sets.{within-gather, places-some}
+use Rattle.theory.proofs.Sets.{within-gather, places-at, places-some}
 use Rattle.theory.proofs.Orders.{Strict, Monotone, bools-strict, cut-monotone, greatest-any, least-all, keeps-greatest, keeps-least, greatest-from, least-from, greatest-agree, least-agree}
 
 -- every term is a set of w positions
@@ -42,6 +41,16 @@ unfolding cut
 value-cut O w lo hi form n ok t l u =
     keeps-value O bools bools-strict (O .leq t) (cut-monotone O t) w lo hi form n
     ∙ rw (l, u) (value-holds w form (λ i. O .leq t (n i)) ok)
+
+-- ---- a value reads its window at the window's positions alone
+
+pub value-agree : {A : Type 0} (O : Order A) (w : ℕ) (lo hi : A) (form : List ℕ) (n n′ : ℕ → A) → ((i : ℕ) → i < w → n i ≡ n′ i) → value O w lo hi form n ≡ value O w lo hi form n′
+unfolding value
+value-agree O w lo hi form n n′ h = ap (λ F. greatest O lo F form) (fun-ext (λ m. same (places w m) (λ i k. h i (places-at w m k .0))))
+  where
+    same : (xs : List ℕ) → ((i : ℕ) → List·Memᴰ i xs → n i ≡ n′ i) → least O hi n xs ≡ least O hi n′ xs
+    same [] f = unfold least in refl
+    same (x ∷ xs) f = least-agree O hi hi n n′ x xs f
 
 -- ---- what is so of each value is so of the filter's
 

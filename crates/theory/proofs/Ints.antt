@@ -1,15 +1,17 @@
--- The order of the integers, by gaps: a is at most b where some natural number takes a to b.
+-- The order of the integers, by gaps: a is at most b where some natural number takes a to b. Sums keep it, and negatives turn it round.
 -- Assumes nothing.
 use mathlib.Core.Path.{_≡_, refl, sym, ap, ap₂, _∙_, subst}
-use mathlib.Core.Bool.{Bool, true, false}
+use mathlib.Core.Bool.{true, false, cond}
 use mathlib.Core.Logic.{_⊎_, inl, inr}
-use Prim.Native.Nat.{ℕ, zero, suc, _+_, _-_, _≤_, _<_}
+use Prim.Native.Nat.{ℕ, suc, _+_, _-_, _≤_}
 use native.Mathlib.Omega.{arith}
-use lib.Dec.{leb, ltb}
-use lib.IntN.{ℤ, pos, negsuc, subℕ, _+ℤ_, +ℤ-assoc, +ℤ-comm, pos-+ℤ-pos}
+use lib.Dec.{ltb}
+use lib.IntN.{ℤ, pos, negsuc, negℤ, subℕ, _+ℤ_, +ℤ-assoc, +ℤ-comm, +ℤ-idr, +ℤ-invl, negℤ-+ℤ, pos-+ℤ-pos}
 use lib.Signed.{leZ}
 use borrow.Author.Tests.{leb-true, le-leb, lt-ltb, le-ltb}
+use Rattle.theory.specs.Orders.{larger, smaller, ints}
 use Rattle.theory.proofs.Tests.{which, not-both}
+use Rattle.theory.proofs.Orders.{Strict}
 
 pub gap : (a b : ℤ) → leZ a b ≡ true → (n : ℕ) × (a +ℤ pos n ≡ b)
 gap (pos a) (pos b) e = (b - a, ap pos (omega (arith, leb-true a b e)))
@@ -40,3 +42,34 @@ leZ-add a b c d p q =
     let h = gap c d q in
     by-gap (a +ℤ c) (b +ℤ d) (g .0 + h .0)
     (ap (λ (z : ℤ). (a +ℤ c) +ℤ z) (sym (pos-+ℤ-pos (g .0) (h .0))) ∙ swap a (pos (g .0)) c (pos (h .0)) ∙ ap₂ (λ (x y : ℤ). x +ℤ y) (g .1) (h .1))
+
+-- ---- each at most the other, and turned round
+
+pub ints-strict : Strict ints
+unfolding ints
+ints-strict (pos a) (pos b) p q = ap pos (omega (arith, leb-true a b p, leb-true b a q))
+ints-strict (pos a) (negsuc b) p q = absurd (not-both p refl)
+ints-strict (negsuc a) (pos b) p q = absurd (not-both q refl)
+ints-strict (negsuc a) (negsuc b) p q = ap negsuc (omega (arith, leb-true b a p, leb-true a b q))
+
+pub neg-down : (a b : ℤ) → leZ a b ≡ true → leZ (negℤ b) (negℤ a) ≡ true
+neg-down a b e =
+    let g = gap a b e in
+    let back : negℤ b +ℤ pos (g .0) ≡ negℤ a =
+    ap (λ (z : ℤ). negℤ z +ℤ pos (g .0)) (sym (g .1))
+    ∙ ap (λ (z : ℤ). z +ℤ pos (g .0)) (negℤ-+ℤ a (pos (g .0)))
+    ∙ +ℤ-assoc (negℤ a) (negℤ (pos (g .0))) (pos (g .0))
+    ∙ ap (λ (z : ℤ). negℤ a +ℤ z) (+ℤ-invl (pos (g .0)))
+    ∙ +ℤ-idr (negℤ a) in
+    subst (λ (z : ℤ). leZ (negℤ b) z ≡ true) back (up (negℤ b) (g .0))
+
+pub neg-larger : (a b : ℤ) → negℤ (larger ints a b) ≡ smaller ints (negℤ a) (negℤ b)
+unfolding larger smaller ints
+neg-larger a b = go (which (leZ a b)) (which (leZ (negℤ a) (negℤ b)))
+  where
+    go : (leZ a b ≡ true) ⊎ (leZ a b ≡ false) → (leZ (negℤ a) (negℤ b) ≡ true) ⊎ (leZ (negℤ a) (negℤ b) ≡ false)
+        → negℤ (cond (leZ a b) b a) ≡ cond (leZ (negℤ a) (negℤ b)) (negℤ a) (negℤ b)
+    go (inl p) (inl q) = rw (p, q) (ints-strict (negℤ b) (negℤ a) (neg-down a b p) q)
+    go (inl p) (inr q) = rw (p, q)
+    go (inr p) (inl q) = rw (p, q)
+    go (inr p) (inr q) = absurd (not-both (neg-down b a (ints .total a b p)) q)

@@ -1,17 +1,17 @@
 -- Laws of the lists: all, any, keep, the numbers from a on, the first that passes, a list by its rule, a count.
 -- Assumes nothing.
 use mathlib.Core.Path.{_≡_, refl, sym, ap, ap₂, _∙_}
-use mathlib.Core.Bool.{Bool, true, false, cond, _||_}
+use mathlib.Core.Bool.{Bool, true, false, _||_}
 use mathlib.Core.List.{List, [], _∷_, _++_, append-nil, List·Memᴰ, List·Memᴰ·head, List·Memᴰ·tail, List·Memᴰ·cases-cons}
 use mathlib.Core.Logic.{_⊎_, inl, inr}
 use Prim.Native.Nat.{ℕ, zero, suc, _+_, _≤_, _<_, min, suc-le-suc, zero-le}
 use native.Mathlib.Nat.{le-of-suc-le-suc, not-suc-le-zero}
 use native.Mathlib.Numerals.{add-one}
 use native.Mathlib.Omega.{arith}
-use lib.Dec.{leb, ltb, eqb}
+use lib.Dec.{leb, eqb}
 use lib.ListN.{length, getD, drop, set, drop-of-length-le}
 use lib.Seq.{drop-cons, set-at, append-snoc}
-use borrow.Author.Tests.{eqb-true, eqb-false, lt-ltb, le-ltb, ltb-true, ltb-false, leb-true, leb-false}
+use borrow.Author.Tests.{eqb-true, eqb-false, lt-ltb, le-ltb, ltb-false, leb-true, leb-false}
 use Rattle.theory.specs.Lists.{all, any, put, keep, tab, from, first, some, bit, tally}
 use Rattle.theory.proofs.Tests.{which, not-both, and-left, and-right, and-both, or-left, or-right, or-cases}
 
@@ -186,6 +186,17 @@ module _ {A : Type 0} where
   tab-all f l i h = rw (drop-of-length-le l h, append-nil)
 
 -- ---- a count
+
+pub bit-lt : (b : Bool) → bit b < 2
+unfolding bit
+bit-lt true = omega arith
+bit-lt false = omega arith
+
+-- of k numbers at most k pass
+pub tally-le : (k : ℕ) (p : ℕ → Bool) → tally k p ≤ k
+unfolding tally
+tally-le zero p = zero-le
+tally-le (suc k) p = omega (arith, tally-le k p, bit-lt (p (suc k)))
 
 pub tally-cong : (k : ℕ) (p q : ℕ → Bool) → ((t : ℕ) → 0 < t → t ≤ k → p t ≡ q t) → tally k p ≡ tally k q
 unfolding tally

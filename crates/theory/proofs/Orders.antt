@@ -4,12 +4,11 @@ use mathlib.Core.Path.{_≡_, refl, sym, ap, ap₂, _∙_}
 use mathlib.Core.Bool.{Bool, true, false, not, _&&_, _||_, cond}
 use mathlib.Core.List.{List, [], _∷_, List·Memᴰ, List·Memᴰ·head, List·Memᴰ·tail}
 use mathlib.Core.Logic.{_⊎_, inl, inr}
-use Prim.Native.Nat.{ℕ}
 use native.Mathlib.Omega.{arith}
 use borrow.Author.Tests.{leb-true}
 use Rattle.theory.specs.Lists.{all, any}
 use Rattle.theory.specs.Orders.{Order, larger, smaller, greatest, least, bools, counts}
-use Rattle.theory.proofs.Tests.{which}
+use Rattle.theory.proofs.Tests.{which, and-true}
 
 -- two values that are each at most the other are one
 abbrev pub Strict : {A : Type 0} → Order A → Type 0
@@ -126,6 +125,15 @@ module _ {A : Type 0} (O : Order A) where
   least-agree d d′ f f′ x (y ∷ ys) h =
       ap₂ (smaller O) (h x (List·Memᴰ·head refl)) (least-agree d d′ f f′ y ys (λ z m. h z (List·Memᴰ·tail m)))
 
+-- ---- the least over a list, by the element that is
+
+pub least-is : {A : Type 0} (O : Order A) → Strict O → {X : Type 0} (d : A) (f : X → A) {x : X} (xs : List X) → List·Memᴰ x xs
+    → ((y : X) → List·Memᴰ y xs → O .leq (f x) (f y) ≡ true) → least O d f xs ≡ f x
+least-is O anti d f [] m h = elim m [ ]
+least-is O anti d f {x} (y ∷ ys) m h =
+    least-agree O d (f x) f f y ys (λ z k. refl)
+    ∙ anti _ _ (least-le O (f x) f (y ∷ ys) m) (least-from O (λ a. O .leq (f x) a ≡ true) (f x) f (y ∷ ys) (h x m) h)
+
 -- ---- a map that keeps the order goes through larger, smaller, greatest and least
 
 module _ {A B : Type 0} (O : Order A) (P : Order B) where
@@ -189,10 +197,6 @@ pub or-no : (a : Bool) → a ≡ (a || false)
 or-no true = refl
 or-no false = refl
 
-and-yes : (a : Bool) → a ≡ (a && true)
-and-yes true = refl
-and-yes false = refl
-
 pub greatest-any : {X : Type 0} (p : X → Bool) (xs : List X) → greatest bools false p xs ≡ any p xs
 unfolding greatest any
 greatest-any p [] = refl
@@ -202,7 +206,7 @@ greatest-any p (x ∷ y ∷ ys) = larger-or (p x) _ ∙ ap (λ (b : Bool). p x |
 pub least-all : {X : Type 0} (p : X → Bool) (xs : List X) → least bools true p xs ≡ all p xs
 unfolding least all
 least-all p [] = refl
-least-all p (x ∷ []) = and-yes (p x)
+least-all p (x ∷ []) = sym (and-true (p x))
 least-all p (x ∷ y ∷ ys) = smaller-and (p x) _ ∙ ap (λ (b : Bool). p x && b) (least-all p (y ∷ ys))
 
 -- cutting at a level keeps the order

@@ -3,7 +3,7 @@
 -- Assumes nothing.
 use mathlib.Core.Path.{_≡_, refl, sym, ap, ap₂, _∙_, fun-ext}
 use mathlib.Core.Bool.{true}
-use mathlib.Core.List.{List, [], _∷_, List·Memᴰ}
+use mathlib.Core.List.{List, [], _∷_, List·Memᴰ·head}
 use lib.IntN.{ℤ, pos, _+ℤ_, +ℤ-assoc, +ℤ-idl, +ℤ-idr}
 use lib.Signed.{leZ}
 use Rattle.theory.specs.Orders.{Order, larger, smaller, greatest, least, ints}
@@ -79,6 +79,30 @@ local O (lower a b) g g′ x h =
     ap₂ (smaller O)
     (local O a g g′ x (λ d i. h d (wider (smaller-left ints (lo a) (lo b)) (larger-left ints (hi a) (hi b)) i)))
     (local O b g g′ x (λ d i. h d (wider (smaller-right ints (lo a) (lo b)) (larger-right ints (hi a) (hi b)) i)))
+
+-- ---- a reach goes from its least to its greatest
+
+left-right : (bs : List ℤ) → leZ (leftmost bs) (rightmost bs) ≡ true
+unfolding leftmost rightmost ints
+left-right [] = unfold least greatest in refl
+left-right (b ∷ bs) =
+    ints .trans (leftmost (b ∷ bs)) b (rightmost (b ∷ bs))
+    (least-le ints (pos 0) (λ z. z) (b ∷ bs) (List·Memᴰ·head refl))
+    (le-greatest ints (pos 0) (λ z. z) (b ∷ bs) (List·Memᴰ·head refl))
+
+-- of two reaches the least lo is at most the greatest hi
+joined-up : (l m h k : ℤ) → leZ l h ≡ true → leZ (smaller ints l m) (larger ints h k) ≡ true
+unfolding ints
+joined-up l m h k e =
+    ints .trans (smaller ints l m) l (larger ints h k) (smaller-left ints l m) (ints .trans l h (larger ints h k) e (larger-left ints h k))
+
+-- a plan's reach goes from its least to its greatest
+pub lo-hi : (e : Plan) → leZ (lo e) (hi e) ≡ true
+unfolding lo hi
+lo-hi scan = refl
+lo-hi (near p bs e) = leZ-add (leftmost bs) (rightmost bs) (lo e) (hi e) (left-right bs) (lo-hi e)
+lo-hi (upper a b) = joined-up (lo a) (lo b) (hi a) (hi b) (lo-hi a)
+lo-hi (lower a b) = joined-up (lo a) (lo b) (hi a) (hi b) (lo-hi a)
 
 -- ---- what is so of each of the signal's values is so of the plan's
 

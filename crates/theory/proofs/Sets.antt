@@ -1,28 +1,23 @@
 -- Laws of the sets of positions, over the width.
 -- Assumes nothing.
-use mathlib.Core.Path.{_≡_, refl, sym, ap, _∙_, subst}
+use mathlib.Core.Path.{_≡_, refl, sym, ap, _∙_}
 use mathlib.Core.Bool.{Bool, true, false, _&&_, _||_}
-use mathlib.Core.List.{List, List·Memᴰ}
+use mathlib.Core.List.{List·Memᴰ}
 use mathlib.Core.Logic.{_⊎_, inl, inr}
-use Prim.Native.Nat.{ℕ, zero, suc, _+_, _*_, _/_, _%_, _^_, _≤_, _<_, zero-le, suc-le-suc, min, max}
+use Prim.Native.Nat.{ℕ, zero, suc, _/_, _%_, _^_, _≤_, _<_, zero-le, suc-le-suc, min, max}
 use native.Mathlib.Nat.{le-of-suc-le-suc, pow-suc, lt-of-le-of-lt, not-suc-le-zero}
 use native.Mathlib.Omega.{arith}
 use lib.Dec.{eqb, eqb·zero-suc, eqb·suc-zero, eqb·suc-suc}
 use lib.Pow.{pow-lt}
 use lib.Arith.{digits-div, digits-mod, digits-lt, lt-one}
-use lib.Bits.{bitAnd, and-step, and-le-l, and-le-r, bitOr, or-step, or-lt}
+use lib.Bits.{bitAnd, and-step, and-le-l, and-le-r, and-shr, and-mod, bitOr, or-step, or-lt}
 use borrow.Author.Tests.{eqb-true, eqb-false, eq-eqb}
 use Rattle.theory.specs.Lists.{all, any, from, bit}
 use Rattle.theory.specs.Sets.{has, gather, within, places, with-place}
 use Rattle.theory.proofs.Tests.{same-test, and-right, which, not-both}
-use Rattle.theory.proofs.Lists.{keep-mem, keep-at, from-mem, from-at, all-at, all-by, any-at, any-by}
+use Rattle.theory.proofs.Lists.{keep-mem, keep-at, from-mem, from-at, all-at, all-by, any-at, any-by, bit-lt}
 
 -- ---- gather
-
-bit-lt : (b : Bool) → bit b < 2
-unfolding bit
-bit-lt true = omega arith
-bit-lt false = omega arith
 
 bit-is : (b : Bool) → eqb (bit b) 1 ≡ b
 unfolding bit
@@ -64,6 +59,10 @@ same-bits (suc w) a b h k f =
     let q : a / 2 ≡ b / 2 = same-bits w (a / 2) (b / 2) (half-lt w h) (half-lt w k) (λ i l. f (suc i) (suc-le-suc l)) in
     let r : a % 2 ≡ b % 2 = low-same (a % 2) (b % 2) (omega arith) (omega arith) (f zero (omega arith)) in
     omega arith
+
+pub gather-cong : (w : ℕ) (p q : ℕ → Bool) → ((i : ℕ) → i < w → p i ≡ q i) → gather w p ≡ gather w q
+gather-cong w p q h =
+    same-bits w (gather w p) (gather w q) (gather-lt w p) (gather-lt w q) (λ i l. has-gather w p i l ∙ h i l ∙ sym (has-gather w q i l))
 
 -- ---- within
 
@@ -132,6 +131,12 @@ within-trans a b c e f = within-by a a c (below a) (λ i l h. within-has b c f i
 
 pub within-antisym : {a b : ℕ} → within a b ≡ true → within b a ≡ true → a ≡ b
 within-antisym e f = omega (arith, within-le e, within-le f)
+
+-- what lies within stays within, on the w positions from k on
+pub within-part : (k w u v : ℕ) → within u v ≡ true → within (u / 2 ^ k % 2 ^ w) (v / 2 ^ k % 2 ^ w) ≡ true
+unfolding within
+within-part k w u v e =
+    eq-eqb _ _ (sym (and-mod (u / 2 ^ k) (v / 2 ^ k) w) ∙ ap (λ (n : ℕ). n % 2 ^ w) (sym (and-shr u v k)) ∙ ap (λ (n : ℕ). n / 2 ^ k % 2 ^ w) (eqb-true _ _ e))
 
 -- ---- places
 

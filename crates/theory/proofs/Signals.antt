@@ -1,39 +1,24 @@
 -- Laws of signals: the window is fair, and what it sees of a list with held ends stands at one index.
 -- Assumes nothing.
-use mathlib.Core.Path.{_≡_, refl, sym, ap, _∙_}
-use mathlib.Core.Bool.{Bool, true, false}
+use mathlib.Core.Path.{_≡_, refl, ap, _∙_}
+use mathlib.Core.Bool.{true}
 use mathlib.Core.List.{List}
 use mathlib.Core.Logic.{_⊎_, inl, inr}
 use Prim.Native.Nat.{ℕ, zero, suc, _+_, _-_, _≤_, _<_, min}
 use native.Mathlib.Omega.{arith}
-use lib.Dec.{leb, ltb}
 use lib.ListN.{length, getD}
 use lib.IntN.{ℤ, pos, negsuc, negℤ, subℕ, _+ℤ_}
 use lib.Signed.{leZ}
-use borrow.Author.Tests.{leb-true, lt-ltb, le-ltb, ltb-true, ltb-false}
+use borrow.Author.Tests.{leb-true}
 use Rattle.theory.specs.Signals.{Ends, held, zeros, endless, Window, row, nine, seen}
-use Rattle.theory.proofs.Tests.{which, not-both}
+use Rattle.theory.proofs.Tests.{not-both}
+use Rattle.theory.proofs.Differences.{sub-low, sub-high, side, pos-add}
 use Rattle.theory.proofs.Plans.{Inside}
 
 -- each offset left .. right has one position
 pub record Fair (W : Window) : Type 0 where
   pub once : (i j : ℕ) → i < W .width → j < W .width → W .offset i ≡ W .offset j → i ≡ j
   pub cover : (d : ℤ) → Inside (W .left) (W .right) d → (i : ℕ) × (i < W .width) × (W .offset i ≡ d)
-
--- left of the centre, and not
-pub sub-low : (i c : ℕ) → i < c → subℕ i c ≡ negsuc (c - suc i)
-sub-low i c h = rw (lt-ltb i c h)
-
-pub sub-high : (i c : ℕ) → c ≤ i → subℕ i c ≡ pos (i - c)
-sub-high i c h = rw (le-ltb i c h)
-
--- the side of the centre on which a position lies
-pub side : (i c : ℕ) → (i < c) ⊎ (c ≤ i)
-side i c = go (which (ltb i c))
-  where
-    go : (ltb i c ≡ true) ⊎ (ltb i c ≡ false) → (i < c) ⊎ (c ≤ i)
-    go (inl e) = inl (ltb-true i c e)
-    go (inr e) = inr (ltb-false i c e)
 
 row-once : (r i j : ℕ) → subℕ i r ≡ subℕ j r → i ≡ j
 row-once r i j e = go (side i r) (side j r)
@@ -64,11 +49,7 @@ nine-fair = row-fair 4
 
 -- seen from r, position i is index i
 pub row-place : (r i : ℕ) → pos r +ℤ subℕ i r ≡ pos i
-row-place r i = go (side i r)
-  where
-    go : (i < r) ⊎ (r ≤ i) → pos r +ℤ subℕ i r ≡ pos i
-    go (inl a) = rw (sub-low i r a, sub-high r (suc (r - suc i)) (omega arith)) (ap pos (omega arith))
-    go (inr a) = rw (sub-high i r a) (ap pos (omega arith))
+row-place r i = pos-add r i r ∙ sub-high (r + i) r (omega arith) ∙ ap pos (omega arith)
 
 -- inside the list each rule gives the element
 pub inner : {A : Type 0} (z : A) (ends : Ends) (s : List A) (i : ℕ) → i < length s → endless z ends s (pos i) ≡ getD s i z
@@ -76,20 +57,15 @@ unfolding endless
 inner z held s i h = ap (λ (k : ℕ). getD s k z) (omega arith)
 inner z zeros s i h = refl
 
-seen-index : (x r i : ℕ) → pos x +ℤ subℕ i r ≡ subℕ (x + i) r
-seen-index x r i = go (side i r) (side (x + i) r)
-  where
-    go : (i < r) ⊎ (r ≤ i) → (x + i < r) ⊎ (r ≤ x + i) → pos x +ℤ subℕ i r ≡ subℕ (x + i) r
-    go (inl a) (inl b) = rw (sub-low i r a, sub-low (x + i) r b, sub-low x (suc (r - suc i)) (omega arith)) (ap negsuc (omega arith))
-    go (inl a) (inr b) = rw (sub-low i r a, sub-high (x + i) r b, sub-high x (suc (r - suc i)) (omega arith)) (ap pos (omega arith))
-    go (inr a) (inl b) = absurd (omega arith)
-    go (inr a) (inr b) = rw (sub-high i r a, sub-high (x + i) r b) (ap pos (omega arith))
-
 -- with held ends, one index in ℕ serves both ends: the subtraction stops at 0
-pub held-seen : {A : Type 0} (r : ℕ) (z : A) (s : List A) (x i : ℕ) → seen (row r) (endless z held s) (pos x) i ≡ getD s (min (x + i - r) (length s - 1)) z
-unfolding seen row endless
-held-seen r z s x i = ap (endless z held s) (seen-index x r i) ∙ go (side (x + i) r)
+pub held-at : {A : Type 0} (z : A) (s : List A) (a r : ℕ) → endless z held s (subℕ a r) ≡ getD s (min (a - r) (length s - 1)) z
+unfolding endless
+held-at z s a r = go (side a r)
   where
-    go : (x + i < r) ⊎ (r ≤ x + i) → endless z held s (subℕ (x + i) r) ≡ getD s (min (x + i - r) (length s - 1)) z
-    go (inl a) = let q : min (x + i - r) (length s - 1) ≡ 0 = omega arith in rw (sub-low (x + i) r a, q)
-    go (inr a) = rw (sub-high (x + i) r a)
+    go : (a < r) ⊎ (r ≤ a) → endless z held s (subℕ a r) ≡ getD s (min (a - r) (length s - 1)) z
+    go (inl l) = let q : min (a - r) (length s - 1) ≡ 0 = omega arith in rw (sub-low a r l, q)
+    go (inr l) = rw (sub-high a r l)
+
+pub held-seen : {A : Type 0} (r : ℕ) (z : A) (s : List A) (x i : ℕ) → seen (row r) (endless z held s) (pos x) i ≡ getD s (min (x + i - r) (length s - 1)) z
+unfolding seen row
+held-seen r z s x i = ap (endless z held s) (pos-add x i r) ∙ held-at z s (x + i) r

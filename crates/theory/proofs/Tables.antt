@@ -1,19 +1,25 @@
--- Laws of truth tables: a table is positive where no single further position turns 1 into 0.
+-- Laws of truth tables: a table is positive exactly where no single further position turns 1 into 0, and it has its function's values.
 -- Assumes nothing.
-use mathlib.Core.Path.{_≡_, refl, sym, ap, _∙_, subst}
-use mathlib.Core.Bool.{Bool, true, false, not, _&&_, _||_}
+use mathlib.Core.Path.{_≡_, refl, sym, ap, ap₂, _∙_, subst}
+use mathlib.Core.Bool.{Bool, true, false, not}
+use mathlib.Core.List.{List}
 use mathlib.Core.Logic.{_⊎_, inl, inr}
-use Prim.Native.Nat.{ℕ, zero, suc, _+_, _-_, _^_, _≤_, _<_, zero-le}
+use Prim.Native.Nat.{ℕ, zero, suc, _+_, _-_, _*_, _/_, _%_, _^_, _<_, zero-le}
+use native.Mathlib.Nat.{eq-or-lt-of-le, mod-lt}
 use native.Mathlib.Omega.{arith}
 use lib.Dec.{eqb}
+use lib.ListN.{length, getD}
+use lib.Pow.{pow-pos}
+use lib.Seq.{ext-getD}
 use borrow.Author.Tests.{eqb-true, eq-eqb, not-true}
-use Rattle.theory.specs.Lists.{any, from}
-use Rattle.theory.specs.Sets.{has, within, with-place}
+use Rattle.theory.specs.Lists.{from, some}
+use Rattle.theory.specs.Sets.{has, gather, within, with-place}
 use Rattle.theory.specs.Forms.{Positive}
-use Rattle.theory.specs.Tables.{slips}
+use Rattle.theory.specs.Tables.{tableAt, tableOf, slips}
 use Rattle.theory.proofs.Tests.{which, not-both, or-left, or-right, or-cases, and-left, and-right, and-both}
-use Rattle.theory.proofs.Lists.{any-at, any-by, from-mem, from-at}
-use Rattle.theory.proofs.Sets.{within-by, within-has, within-le, within-antisym, has-with, with-lt}
+use Rattle.theory.proofs.Lists.{any-at, any-by, from-mem, from-at, some-none, some-no, length-tab, getD-tab}
+use Rattle.theory.proofs.Sets.{within-by, within-has, within-le, within-part, has-with, with-lt, has-gather, gather-lt, same-bits}
+use Rattle.theory.proofs.Places.{lacks-one}
 
 -- ---- no slip, so positive
 
@@ -28,21 +34,15 @@ module _ (w : ℕ) (f : ℕ → Bool) (none : (v : ℕ) → v < 2 ^ w → slips 
 
   climb : (n u v : ℕ) → v - u < n → v < 2 ^ w → within u v ≡ true → f u ≡ true → f v ≡ true
   climb zero u v d h q e = absurd (omega arith)
-  climb (suc n) u v d h q e = go (which (any (λ i. has v i && not (has u i)) (from 0 w))) (climb n)
+  climb (suc n) u v d h q e = go (eq-or-lt-of-le (within-le q)) (climb n)
     where
-      go : (any (λ i. has v i && not (has u i)) (from 0 w) ≡ true) ⊎ (any (λ i. has v i && not (has u i)) (from 0 w) ≡ false)
-          → ((u v : ℕ) → v - u < n → v < 2 ^ w → within u v ≡ true → f u ≡ true → f v ≡ true) → f v ≡ true
-      go (inr z) ih = subst (λ (k : ℕ). f k ≡ true) (within-antisym q (within-by w v u h (λ i l p. all-in i l p (which (has u i))))) e
-        where
-          all-in : (i : ℕ) → i < w → has v i ≡ true → (has u i ≡ true) ⊎ (has u i ≡ false) → has u i ≡ true
-          all-in i l p (inl k) = k
-          all-in i l p (inr k) = absurd (not-both (any-by (λ i. has v i && not (has u i)) {x = i} (from-mem 0 w zero-le (omega arith)) (and-both p (rw k))) z)
-      go (inl z) ih =
-          let s = any-at (λ i. has v i && not (has u i)) (from 0 w) z in
-          let l : s .0 < w = omega (arith, from-at 0 w (s .1)) in
-          let b : u < 2 ^ w = omega (arith, within-le q) in
-          let in-v : within (with-place u (s .0)) v ≡ true = inside (s .0) l b (and-left (has v (s .0)) _ (s .2)) in
-          ih (with-place u (s .0)) v (closer (s .0) l b (not-true _ (and-right (has v (s .0)) _ (s .2))) in-v) h in-v (one-more u (s .0) b l e)
+      go : (u ≡ v) ⊎ (u < v) → ((u v : ℕ) → v - u < n → v < 2 ^ w → within u v ≡ true → f u ≡ true → f v ≡ true) → f v ≡ true
+      go (inl z) ih = subst (λ (k : ℕ). f k ≡ true) z e
+      go (inr k) ih =
+          let s = lacks-one w u v k h in
+          let b : u < 2 ^ w = omega arith in
+          let in-v : within (with-place u (s .0)) v ≡ true = inside (s .0) (s .1) b (s .2) in
+          ih (with-place u (s .0)) v (closer (s .0) (s .1) b (s .3) in-v) h in-v (one-more u (s .0) b (s .1) e)
         where
           inside : (i : ℕ) → i < w → u < 2 ^ w → has v i ≡ true → within (with-place u i) v ≡ true
           inside i l b p = within-by w (with-place u i) v (with-lt w u i b l) (λ k c m. pick k (or-cases (has u k) _ (sym (has-with u i k) ∙ m)))
@@ -60,3 +60,52 @@ module _ (w : ℕ) (f : ℕ → Bool) (none : (v : ℕ) → v < 2 ^ w → slips 
 
   pub positive-by : Positive w f
   positive-by u v h q e = climb (suc v) u v (omega arith) h q e
+
+-- ---- slips and positive, as tests
+
+module _ (w : ℕ) (f : ℕ → Bool) where
+  -- no slip, so positive
+  pub fine-positive : some (slips w f) (2 ^ w) ≡ false → Positive w f
+  fine-positive e = positive-by w f (some-no (slips w f) (2 ^ w) e)
+
+  -- positive, so no slip
+  pub positive-fine : Positive w f → some (slips w f) (2 ^ w) ≡ false
+  unfolding slips
+  positive-fine pos = some-none (slips w f) (2 ^ w) (λ v b. go v b (which (slips w f v)))
+    where
+      go : (v : ℕ) → v < 2 ^ w → (slips w f v ≡ true) ⊎ (slips w f v ≡ false) → slips w f v ≡ false
+      go v b (inr e) = e
+      go v b (inl e) =
+          let s = any-at (λ i. not (f (with-place v i))) (from 0 w) (and-right (f v) _ e) in
+          let l : s .0 < w = omega (arith, from-at 0 w (s .1)) in
+          let up : within v (with-place v (s .0)) ≡ true = within-by w v (with-place v (s .0)) b (λ j k h. has-with v (s .0) j ∙ or-left _ h) in
+          absurd (not-both (pos v (with-place v (s .0)) (with-lt w v (s .0) b l) up (and-left (f v) _ e)) (not-true _ (s .2)))
+
+-- a positive function of w positions is positive of more, read on the w positions from k on
+pub positive-part : (w : ℕ) (f : ℕ → Bool) → Positive w f → (n k : ℕ) → Positive n (λ v. f (v / 2 ^ k % 2 ^ w))
+positive-part w f pos n k u v l q h = pos (u / 2 ^ k % 2 ^ w) (v / 2 ^ k % 2 ^ w) (mod-lt (v / 2 ^ k) (pow-pos w)) (within-part k w u v q) h
+
+-- ---- a table and its values
+
+-- the table of a function has its values
+pub table-value : (n : ℕ) (f : ℕ → Bool) (v : ℕ) → v < 8 * n → tableAt (tableOf n f) v ≡ f v
+unfolding tableAt tableOf
+table-value n f v l =
+    let e : 8 * (v / 8) + v % 8 ≡ v = omega arith in
+    ap (λ (b : ℕ). has b (v % 8)) (getD-tab 0 n _ (v / 8) (omega arith)) ∙ has-gather 8 (λ i. f (8 * (v / 8) + i)) (v % 8) (omega arith) ∙ ap f e
+
+-- a table of bytes is the table of its values
+pub table-same : (f : ℕ → Bool) (tb : List ℕ) → ((j : ℕ) → j < length tb → getD tb j 0 < 256) → ((v : ℕ) → v < 8 * length tb → f v ≡ tableAt tb v)
+    → tableOf (length tb) f ≡ tb
+unfolding tableAt tableOf
+table-same f tb bytes same =
+    ext-getD 0 _ tb (length-tab (length tb) _) (λ j h. byte j (rw (length-tab (length tb) (λ j. gather 8 (λ i. f (8 * j + i)))) at h))
+  where
+    byte : (j : ℕ) → j < length tb → getD (tableOf (length tb) f) j 0 ≡ getD tb j 0
+    byte j h = getD-tab 0 (length tb) _ j h ∙ same-bits 8 (gather 8 (λ i. f (8 * j + i))) (getD tb j 0) (gather-lt 8 _) (bytes j h) bits
+      where
+        bits : (i : ℕ) → i < 8 → has (gather 8 (λ i. f (8 * j + i))) i ≡ has (getD tb j 0) i
+        bits i k =
+            let q : (8 * j + i) / 8 ≡ j = omega arith in
+            let r : (8 * j + i) % 8 ≡ i = omega arith in
+            has-gather 8 (λ i. f (8 * j + i)) i k ∙ same (8 * j + i) (omega arith) ∙ ap₂ (λ (a b : ℕ). has (getD tb a 0) b) q r

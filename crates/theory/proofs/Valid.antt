@@ -1,20 +1,22 @@
 -- A list has no bad index exactly where it is a form.
 -- Assumes nothing.
-use mathlib.Core.Path.{_≡_, refl, sym, ap, _∙_}
-use mathlib.Core.Bool.{Bool, true, false, not, _&&_, _||_}
-use mathlib.Core.List.{List, [], _∷_, List·Memᴰ, List·Memᴰ·head, List·Memᴰ·tail}
+use mathlib.Core.Path.{_≡_, refl, ap}
+use mathlib.Core.Bool.{Bool, true, false, _&&_, _||_}
+use mathlib.Core.List.{List, [], _∷_, List·Memᴰ·head}
 use mathlib.Core.Logic.{_⊎_, inl, inr}
 use Prim.Native.Nat.{ℕ, zero, suc, _+_, _-_, _^_, _≤_, _<_, suc-le-suc, zero-le}
 use native.Mathlib.Nat.{le-of-suc-le-suc, not-suc-le-zero}
 use native.Mathlib.Omega.{arith}
 use lib.Dec.{leb, ltb}
-use lib.ListN.{length, getD}
+use lib.ListN.{length, getD, take}
+use lib.Seq.{getD-take}
 use borrow.Author.Tests.{leb-false, lt-leb, ltb-true, ltb-false, lt-ltb, le-ltb}
-use Rattle.theory.specs.Lists.{first, some}
+use Rattle.theory.specs.Lists.{some}
 use Rattle.theory.specs.Sets.{within}
 use Rattle.theory.specs.Forms.{Valid, containsEarlier, isBad}
 use Rattle.theory.proofs.Tests.{which, or-no-left, or-no-right}
 use Rattle.theory.proofs.Lists.{some-none, some-no, mem-index, index-mem}
+use Rattle.theory.proofs.Searches.{first-cong}
 
 -- every term is a set of w positions; of two, the later is above the earlier and does not contain it
 pub record Apart (w : ℕ) (ts : List ℕ) : Type 0 where
@@ -103,3 +105,28 @@ valid-fine w ts ok i l = go i l
         and-no : (b : Bool) → ((b && false) || false) ≡ false
         and-no true = refl
         and-no false = refl
+
+-- ---- forms are short
+
+-- rising terms below 2 ^ w, the first of them m
+room : (w m : ℕ) (f : List ℕ) → Valid w (m ∷ f) → m + length (m ∷ f) ≤ 2 ^ w
+room w m [] ok = omega (arith, ok .0)
+room w m (k ∷ f) ok = omega (arith, ok .1 k (List·Memᴰ·head refl) .0, room w k f (ok .2))
+
+pub form-short : (w : ℕ) (ts : List ℕ) → Valid w ts → length ts ≤ 2 ^ w
+form-short w [] ok = zero-le
+form-short w (m ∷ f) ok = omega (arith, room w m f ok)
+
+-- so a longer list has a bad term
+pub long-bad : (w : ℕ) (ts : List ℕ) → 2 ^ w < length ts → some (isBad w ts) (length ts) ≡ true
+long-bad w ts h = go (which (some (isBad w ts) (length ts)))
+  where
+    go : (some (isBad w ts) (length ts) ≡ true) ⊎ (some (isBad w ts) (length ts) ≡ false) → some (isBad w ts) (length ts) ≡ true
+    go (inl e) = e
+    go (inr e) = absurd (omega (arith, form-short w ts (fine-valid w ts (some-no (isBad w ts) (length ts) e))))
+
+-- an index is bad of the list where it is of its front
+pub bad-front : (w n : ℕ) (ts : List ℕ) (i : ℕ) → i < n → isBad w (take n ts) i ≡ isBad w ts i
+unfolding isBad containsEarlier some
+bad-front w n ts i h =
+    rw (getD-take n ts i 0 h, getD-take n ts (i - 1) 0 (omega arith), first-cong (λ j. within (getD (take n ts) j 0) (getD ts i 0)) (λ j. within (getD ts j 0) (getD ts i 0)) i (λ j l. ap (λ (t : ℕ). within t (getD ts i 0)) (getD-take n ts j 0 (omega arith))))

@@ -2,7 +2,7 @@
 use borrow.Author.Needs.{needs}
 use Prim.Native.Nat.{_/_, _%_}
 use Rattle.files.specs.Bytes.{fourBytes, twoBytes}
-use Rattle.files.proofs.Stores.{sets-append}
+use Rattle.theory.proofs.Slices.{sets-append}
 use Rattle.files.proofs.put_long.Statement.{statement}
 use Rattle.files.proofs.put_long.Tie as tie
 

@@ -3,9 +3,10 @@ use borrow.Author.Needs.{needs}
 use native.Mathlib.Omega.{arith}
 use mathlib.Core.Path.{sym, _∙_}
 use lib.ListN.{length}
+use Rattle.refusals.proofs.Checks.{written-whole}
 use Rattle.forms.proofs.Fine.{fine-few}
 use Rattle.files.specs.Layout.{fileOf}
-use Rattle.files.proofs.Stores.{length-file, nothing-left}
+use Rattle.files.proofs.Stores.{length-file}
 use Rattle.files.proofs.Accepts.{fine-write}
 use Rattle.files.proofs.write.Statement.{statement}
 use Rattle.files.proofs.write.Tie as tie
@@ -43,7 +44,7 @@ returns-2 c =
     let w = fine-write (a .terms .now) (a .scan .now) (length old) e in
     record {
       answer = rw (e, filled);
-      out = rw e (filled ∙ sym (nothing-left file old (omega (arith, length-file (a .terms .now) (a .scan .now), w .fits))));
+      out = filled ∙ sym (written-whole file old e (omega (arith, length-file (a .terms .now) (a .scan .now), w .fits)));
     }
 
 pub write-spec : {M : Type 1} → statement M

@@ -10,7 +10,7 @@ use Rattle.theory.specs.Lists.{tab}
 use Rattle.theory.specs.Sets.{gather}
 use Rattle.theory.specs.Tables.{tableOf}
 use Rattle.theory.proofs.Lists.{tab-none, tab-more}
-use Rattle.tables.proofs.Places.{has-shift}
+use Rattle.theory.proofs.Places.{has-shift}
 use Rattle.presets.specs.Presets.{widened}
 use Rattle.presets.proofs.Wide.{wide-byte}
 use Rattle.presets.proofs.widen.Statement.{statement}

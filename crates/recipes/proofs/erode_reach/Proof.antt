@@ -5,7 +5,7 @@ use native.Mathlib.Omega.{arith}
 use mathlib.Core.Path.{_∙_, ap₂}
 use lib.IntN.{ℤ}
 use Rattle.recipes.specs.Reaches.{moved, erodedReach}
-use Rattle.recipes.proofs.Signs.{read-back, read-as}
+use Rattle.theory.proofs.Signs.{read-back, read-as}
 use Rattle.recipes.proofs.erode_reach.Statement.{statement}
 use Rattle.recipes.proofs.erode_reach.Tie as tie
 

@@ -1,7 +1,7 @@
 -- `greatest_offset` meets its contract: the zeros above the highest bit give its position.
 -- Assumes nothing.
 use mathlib.Core.Path.{_∙_, sym}
-use Rattle.recipes.proofs.Signs.{read-back}
+use Rattle.theory.proofs.Signs.{read-back}
 use Rattle.theory.specs.Signals.{row, nine}
 use Rattle.recipes.proofs.Offsets.{max-at}
 use Rattle.recipes.proofs.greatest_offset.Statement.{statement}

@@ -5,7 +5,7 @@ use native.Mathlib.Omega.{arith}
 use mathlib.Core.Path.{_∙_, ap₂}
 use Rattle.theory.specs.Orders.{smaller, larger, ints}
 use Rattle.recipes.specs.Reaches.{joinedReach}
-use Rattle.recipes.proofs.Signs.{read-back}
+use Rattle.theory.proofs.Signs.{read-back}
 use Rattle.recipes.proofs.Reaches.{reach-by}
 use Rattle.recipes.proofs.join_reach.Statement.{statement}
 use Rattle.recipes.proofs.join_reach.Tie as tie

@@ -1,6 +1,6 @@
 -- `least_offset` meets its contract: the zeros below the lowest bit give its position.
 -- Assumes nothing.
-use Rattle.recipes.proofs.Signs.{read-back}
+use Rattle.theory.proofs.Signs.{read-back}
 use Rattle.theory.specs.Signals.{row, nine}
 use Rattle.recipes.proofs.Offsets.{min-at}
 use mathlib.Core.Path.{_∙_, sym}

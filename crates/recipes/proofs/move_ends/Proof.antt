@@ -1,7 +1,7 @@
 -- `move_ends` meets its contract: the sums are small.
 -- Assumes nothing.
 use native.Mathlib.Omega.{arith}
-use Rattle.recipes.proofs.Signs.{sum-fits, sum-read}
+use Rattle.theory.proofs.Signs.{sum-fits, sum-read}
 use Rattle.recipes.proofs.Reaches.{reach-by}
 use Rattle.recipes.proofs.move_ends.Statement.{statement}
 use Rattle.recipes.proofs.move_ends.Tie as tie

@@ -10,7 +10,7 @@ use mir.Syntax.{w32}
 use mir.Val.{toZ, ofZ}
 use mir.Facts.{toZ-ofZ, toZ-pos}
 use Rattle.theory.specs.Signals.{row, nine}
-use Rattle.recipes.proofs.Signs.{fits, mag-apart, mag-diff}
+use Rattle.theory.proofs.Signs.{fits, mag-apart, mag-diff}
 use Rattle.recipes.proofs.offset.Statement.{statement}
 use Rattle.recipes.proofs.offset.Tie as tie
 

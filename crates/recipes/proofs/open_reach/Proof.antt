@@ -5,7 +5,7 @@ use native.Mathlib.Omega.{arith}
 use mathlib.Core.Path.{_∙_, ap, ap₂}
 use lib.IntN.{ℤ, negℤ}
 use Rattle.recipes.specs.Reaches.{moved, openedReach}
-use Rattle.recipes.proofs.Signs.{read-back, read-as}
+use Rattle.theory.proofs.Signs.{read-back, read-as}
 use Rattle.recipes.proofs.open_reach.Statement.{statement}
 use Rattle.recipes.proofs.open_reach.Tie as tie
 

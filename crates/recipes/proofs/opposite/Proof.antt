@@ -1,7 +1,7 @@
 -- `opposite` meets its contract: the number is small.
 -- Assumes nothing.
 use native.Mathlib.Omega.{arith}
-use Rattle.recipes.proofs.Signs.{mag-neg, neg-fits, neg-read}
+use Rattle.theory.proofs.Signs.{mag-neg, neg-fits, neg-read}
 use Rattle.recipes.proofs.opposite.Statement.{statement}
 use Rattle.recipes.proofs.opposite.Tie as tie
 

@@ -4,7 +4,7 @@ use borrow.Author.Needs.{needs}
 use native.Mathlib.Omega.{arith}
 use mathlib.Core.Path.{_∙_, ap₂}
 use lib.IntN.{_-ℤ_}
-use Rattle.recipes.proofs.Signs.{mag-diff, diff-fits, diff-read}
+use Rattle.theory.proofs.Signs.{mag-diff, diff-fits, diff-read}
 use Rattle.recipes.proofs.span.Statement.{statement}
 use Rattle.recipes.proofs.span.Tie as tie
 

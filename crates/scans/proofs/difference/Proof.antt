@@ -3,7 +3,7 @@ use borrow.Author.Needs.{needs}
 use native.Mathlib.Omega.{arith}
 use mir.Facts.{toZ-ofZ, toZ-pos}
 use mir.Syntax.{w32}
-use Rattle.scans.proofs.Residues.{minus-fits}
+use Rattle.theory.proofs.Signs.{minus-fits}
 use Rattle.scans.proofs.difference.Statement.{statement}
 use Rattle.scans.proofs.difference.Tie as tie
 

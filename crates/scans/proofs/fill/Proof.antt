@@ -1,21 +1,23 @@
 -- `scans::fill` writes the filter at each sample, one store a turn. Assumes nothing.
 use borrow.Author.Needs.{needs}
-use Prim.Native.Nat.{_≤_, _-_}
+use Prim.Native.Nat.{ℕ, _-_}
 use native.Mathlib.Omega.{arith}
+use mathlib.Core.Path.{ap, _∙_}
 use lib.ListN.{length}
+use Rattle.theory.specs.Lists.{tab}
 use Rattle.theory.specs.Signals.{filteredAt, cleaned}
-use Rattle.scans.proofs.Fills.{Filled, fill-start, fill-turn, fill-end}
+use Rattle.theory.proofs.Fills.{Filled, fill-none, fill-more, fill-all}
 use Rattle.scans.proofs.fill.Statement.{statement}
 use Rattle.scans.proofs.fill.Tie as tie
 
 abbrev Inv-loop : tie.InvT-loop
-Inv-loop terms scan out₀ x₀ out x = (x ≤ length out₀) × Filled (filteredAt terms scan) out₀ x out
+Inv-loop terms scan out₀ x₀ out x = Filled (filteredAt terms scan) out₀ out x
 
 abbrev μ-loop : tie.MeasureT-loop
 μ-loop terms scan out₀ x₀ out x = length out₀ - x
 
 loop-holds : tie.Need-loop-holds Inv-loop μ-loop
-loop-holds c = (search needs, fill-start _ _)
+loop-holds c = fill-none _ _
 
 filter-at-requires : tie.Need-filter-at-requires Inv-loop μ-loop
 filter-at-requires c κs = search needs
@@ -34,9 +36,7 @@ loop-less c = search needs
 
 loop-again : tie.Need-loop-again Inv-loop μ-loop
 loop-again c =
-    let at = c .before .before in
-    let a = at .before .before .before .before .args in
-    (omega arith, fill-turn (filteredAt (a .terms .now) (a .scan .now)) (a .out .now) 0 (at .loop .x) (at .loop .inv .1) (omega arith) (c .filter-at .ensures))
+    fill-more (c .before .before .loop .inv) (omega arith) (c .filter-at .ensures)
 
 same-length : tie.Need-same-length Inv-loop μ-loop
 same-length c = search needs
@@ -46,8 +46,7 @@ unfolding cleaned
 returns c =
     let at = c .before in
     let start = at .before .before .before .before in
-    let a = start .args in
-    fill-end (filteredAt (a .terms .now) (a .scan .now)) (a .out .now) (length (a .scan .now)) (at .loop .x) (at .loop .inv .1) (start .pre .1) (omega arith)
+    fill-all (at .loop .inv) (omega arith) ∙ ap (λ (n : ℕ). tab n (filteredAt (start .args .terms .now) (start .args .scan .now))) (start .pre .1)
 
 pub fill-spec : {M : Type 1} → statement M
 fill-spec =

@@ -1,26 +1,27 @@
 -- `scans::fill_residue` writes the residue at each sample, one store a turn. Assumes nothing.
 use borrow.Author.Needs.{needs}
-use Prim.Native.Nat.{ℕ, _≤_, _-_}
+use Prim.Native.Nat.{ℕ, _-_}
 use native.Mathlib.Omega.{arith}
 use mathlib.Core.Path.{ap, _∙_}
 use lib.ListN.{length, getD}
 use lib.IntN.{pos, _-ℤ_}
 use mir.Syntax.{w32}
 use mir.Facts.{toZ-ofZ}
+use Rattle.theory.specs.Lists.{tab}
 use Rattle.theory.specs.Signals.{residueAt}
 use Rattle.scans.specs.Run.{residues}
-use Rattle.scans.proofs.Fills.{Filled, fill-start, fill-turn, fill-end}
+use Rattle.theory.proofs.Fills.{Filled, fill-none, fill-more, fill-all}
 use Rattle.scans.proofs.fill_residue.Statement.{statement}
 use Rattle.scans.proofs.fill_residue.Tie as tie
 
 abbrev Inv-loop : tie.InvT-loop
-Inv-loop terms scan out₀ x₀ out x = (x ≤ length scan) × Filled (residueAt terms scan) out₀ x out
+Inv-loop terms scan out₀ x₀ out x = Filled (residueAt terms scan) out₀ out x
 
 abbrev μ-loop : tie.MeasureT-loop
 μ-loop terms scan out₀ x₀ out x = length scan - x
 
 loop-holds : tie.Need-loop-holds Inv-loop μ-loop
-loop-holds c = (search needs, fill-start _ _)
+loop-holds c = fill-none _ _
 
 mul-difference : tie.Need-mul-difference Inv-loop μ-loop
 mul-difference c = search needs
@@ -50,11 +51,9 @@ loop-again : tie.Need-loop-again Inv-loop μ-loop
 unfolding residueAt
 loop-again c =
     let at = c .before .before .before .before in
-    let a = at .before .before .before .args in (
-      omega arith,
-      fill-turn (residueAt (a .terms .now) (a .scan .now)) (a .out .now) (pos 0) (at .loop .x) (at .loop .inv .1) (omega arith)
-          (toZ-ofZ {w = w32} {z = c .difference .result} (record { sfits = c .difference .ok }) ∙ c .difference .ensures ∙ ap (λ (v : ℕ). pos (getD (a .scan .now) (at .loop .x) 0) -ℤ pos v) (c .before .filter-at .ensures)),
-    )
+    let a = at .before .before .before .args in
+    fill-more (at .loop .inv) (omega arith)
+    (toZ-ofZ {w = w32} {z = c .difference .result} (record { sfits = c .difference .ok }) ∙ c .difference .ensures ∙ ap (λ (v : ℕ). pos (getD (a .scan .now) (at .loop .x) 0) -ℤ pos v) (c .before .filter-at .ensures))
 
 same-length : tie.Need-same-length Inv-loop μ-loop
 same-length c = search needs
@@ -64,8 +63,7 @@ unfolding residues
 returns c =
     let at = c .before in
     let start = at .before .before .before in
-    let a = start .args in
-    fill-end (residueAt (a .terms .now) (a .scan .now)) (a .out .now) (length (a .scan .now)) (at .loop .x) (at .loop .inv .1) (start .pre .1) (omega arith)
+    fill-all (at .loop .inv) (omega arith) ∙ ap (λ (n : ℕ). tab n (residueAt (start .args .terms .now) (start .args .scan .now))) (start .pre .1)
 
 pub fill-residue-spec : {M : Type 1} → statement M
 fill-residue-spec =

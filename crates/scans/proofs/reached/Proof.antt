@@ -1,7 +1,7 @@
 -- `scans::reached` meets its contract: the shifted term is odd exactly where the term has the position. Assumes nothing.
 use borrow.Author.Tests.{eq-eqb, ne-eqb}
 use borrow.Author.Needs.{needs}
-use Rattle.scans.proofs.Counts.{has-shift}
+use Rattle.theory.proofs.Places.{has-shift}
 use Rattle.scans.proofs.reached.Statement.{statement}
 use Rattle.scans.proofs.reached.Tie as tie
 

@@ -7,7 +7,7 @@ use mathlib.Core.Bool.{Bool}
 use Rattle.theory.specs.Lists.{bit}
 use Rattle.theory.specs.Sets.{gather}
 use Rattle.theory.specs.Forms.{holds}
-use Rattle.tables.proofs.Bytes.{gather-none, gather-more, gather-all, gather-byte}
+use Rattle.theory.proofs.Gathers.{gather-none, gather-more, gather-all, gather-byte}
 use Rattle.tables.proofs.byte_of.Statement.{statement}
 use Rattle.tables.proofs.byte_of.Tie as tie
 

@@ -9,7 +9,7 @@ use Rattle.theory.specs.Lists.{bit}
 use Rattle.theory.specs.Forms.{minimal, formOf}
 use Rattle.theory.specs.Tables.{tableAt}
 use Rattle.tables.specs.Tables.{formIn}
-use Rattle.tables.proofs.Keeps.{kept, kept-none, kept-length, kept-more, kept-room}
+use Rattle.theory.proofs.Keeps.{kept, kept-none, kept-length, kept-more, kept-room}
 use Rattle.tables.proofs.fill_terms.Statement.{statement}
 use Rattle.tables.proofs.fill_terms.Tie as tie
 

@@ -1,6 +1,6 @@
 -- `tables::has_place` meets its contract: a shift reads the bit. Assumes nothing.
 use borrow.Author.Needs.{needs}
-use Rattle.tables.proofs.Places.{has-shift}
+use Rattle.theory.proofs.Places.{has-shift}
 use Rattle.tables.proofs.has_place.Statement.{statement}
 use Rattle.tables.proofs.has_place.Tie as tie
 

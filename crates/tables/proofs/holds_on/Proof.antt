@@ -8,7 +8,7 @@ use mathlib.Core.Bool.{false}
 use lib.ListN.{length, getD}
 use Rattle.theory.specs.Sets.{within}
 use Rattle.theory.specs.Forms.{holds}
-use Rattle.tables.proofs.Searches.{index-by, index-no}
+use Rattle.theory.proofs.Searches.{index-by, index-no}
 use Rattle.tables.proofs.holds_on.Statement.{statement}
 use Rattle.tables.proofs.holds_on.Tie as tie
 

@@ -8,9 +8,9 @@ use mathlib.Core.Path.{_≡_, sym, _∙_}
 use mathlib.Core.Bool.{true, false}
 use Rattle.theory.specs.Forms.{minimal}
 use Rattle.theory.specs.Tables.{tableAt}
-use Rattle.tables.proofs.Searches.{below-by, below-no}
-use Rattle.tables.proofs.Minimal.{keepsWithout, minimalByOne, one-less}
-use Rattle.tables.proofs.Positives.{fine-positive}
+use Rattle.theory.proofs.Searches.{below-by, below-no}
+use Rattle.theory.proofs.Minimal.{keepsWithout, minimalByOne, one-less}
+use Rattle.theory.proofs.Tables.{fine-positive}
 use Rattle.tables.proofs.is_term.Statement.{statement}
 use Rattle.tables.proofs.is_term.Tie as tie
 

@@ -4,7 +4,7 @@ use Prim.Native.Nat.{ℕ, _-_}
 use native.Mathlib.Omega.{arith}
 use mathlib.Core.Path.{sym, ap, _∙_}
 use Rattle.theory.specs.Tables.{tableAt}
-use Rattle.tables.proofs.Places.{has-le}
+use Rattle.theory.proofs.Places.{has-le}
 use Rattle.tables.proofs.keeps_without.Statement.{statement}
 use Rattle.tables.proofs.keeps_without.Tie as tie
 

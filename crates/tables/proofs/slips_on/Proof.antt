@@ -8,7 +8,7 @@ use mathlib.Core.Path.{_≡_, sym, _∙_}
 use mathlib.Core.Bool.{true, false, not}
 use Rattle.theory.specs.Sets.{with-place}
 use Rattle.theory.specs.Tables.{tableAt, slips}
-use Rattle.tables.proofs.Searches.{below-by, below-no}
+use Rattle.theory.proofs.Searches.{below-by, below-no}
 use Rattle.tables.proofs.slips_on.Statement.{statement}
 use Rattle.tables.proofs.slips_on.Tie as tie
 

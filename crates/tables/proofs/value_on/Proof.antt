@@ -1,7 +1,7 @@
 -- `tables::value_on` meets its contract: a shift reads the bit. Assumes nothing.
 use borrow.Author.Needs.{needs}
 use Rattle.theory.specs.Tables.{tableAt}
-use Rattle.tables.proofs.Places.{has-shift}
+use Rattle.theory.proofs.Places.{has-shift}
 use Rattle.tables.proofs.value_on.Statement.{statement}
 use Rattle.tables.proofs.value_on.Tie as tie
 

@@ -1,0 +1,3 @@
+-- What the contract of compiling cites.
+pub mod Patterns
+pub mod Compile

@@ -1,0 +1,2 @@
+-- What the C interface's promises allow.
+pub mod Decided

@@ -1,0 +1,2 @@
+-- The worked cases and the one statement about them.
+pub mod Cases
