@@ -12,9 +12,8 @@ from chance import Chance
 from groups import files, forms, recipes, reports, scans
 from wire import END, described, line, record
 
-# The groups whose calls the program `cases` makes, in this order. `recipes`, `files` and `reports`
-# join them once their crates are there.
-GROUPS = [forms, scans]
+# The groups whose calls the program `cases` makes, in this order.
+GROUPS = [forms, scans, recipes, files, reports]
 
 CASES = pathlib.Path(__file__).resolve().parent.parent / "crates" / "cases"
 

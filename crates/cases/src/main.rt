@@ -3,9 +3,11 @@
 // second/README.md has the formats of both. The program is proved safe and ending; that each line is
 // the one expected is shown by running it on the stored vectors.
 mod calls;
+mod file_calls;
 mod form_calls;
 mod input;
 mod output;
+mod recipe_calls;
 mod room;
 mod scan_calls;
 
