@@ -6,5 +6,5 @@ use mathlib.Core.List.{List}
 use Rattle.refusals.specs.declared.Answer.{Answer}
 use Rattle.presets.specs.Presets.{Preset}
 
-pub decided : (i : ℕ) (old new new′ : List ℕ) (r r′ : Answer) → Preset i old new r → Preset i old new′ r′ → (r ≡ r′) × (new ≡ new′)
-decided i old new new′ r r′ p q = (cc, cc)
+pub preset-decided : (i : ℕ) (old new new′ : List ℕ) (r r′ : Answer) → Preset i old new r → Preset i old new′ r′ → (r ≡ r′) × (new ≡ new′)
+preset-decided i old new new′ r r′ p q = (cc, cc)

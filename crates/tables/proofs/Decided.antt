@@ -6,8 +6,8 @@ use mathlib.Core.List.{List}
 use Rattle.refusals.specs.declared.Answer.{Answer}
 use Rattle.tables.specs.Tables.{Formed, Tabled}
 
-pub decided-form : (tb old new new′ : List ℕ) (r r′ : Answer) → Formed tb old new r → Formed tb old new′ r′ → (r ≡ r′) × (new ≡ new′)
-decided-form tb old new new′ r r′ p q = (cc, cc)
+pub table-to-form-decided : (tb old new new′ : List ℕ) (r r′ : Answer) → Formed tb old new r → Formed tb old new′ r′ → (r ≡ r′) × (new ≡ new′)
+table-to-form-decided tb old new new′ r r′ p q = (cc, cc)
 
-pub decided-table : (ts old new new′ : List ℕ) (r r′ : Answer) → Tabled ts old new r → Tabled ts old new′ r′ → (r ≡ r′) × (new ≡ new′)
-decided-table ts old new new′ r r′ p q = (cc, cc)
+pub form-to-table-decided : (ts old new new′ : List ℕ) (r r′ : Answer) → Tabled ts old new r → Tabled ts old new′ r′ → (r ≡ r′) × (new ≡ new′)
+form-to-table-decided ts old new new′ r r′ p q = (cc, cc)
