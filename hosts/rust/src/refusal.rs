@@ -1,0 +1,155 @@
+//! Why a call says no.
+
+use std::error::Error;
+use std::fmt;
+
+/// Why a call was refused, with the place at fault. After a refusal every slice lent has the
+/// elements that it had.
+///
+/// ```
+/// let refusal = stackfilter::clean(&[24, 16], &[5, 0, 0]).unwrap_err();
+/// assert_eq!(refusal, stackfilter::Refusal::Term { index: 1 });
+/// assert_eq!((refusal.number(), refusal.place()), (7, 1));
+/// assert_eq!(
+///     refusal.to_string(),
+///     "term 1 is over 511, not above its predecessor, or contains an earlier one"
+/// );
+/// ```
+#[derive(Clone, Copy, Debug, PartialEq, Eq, Hash)]
+pub enum Refusal {
+    /// 1: the recipe is empty, not a multiple of 4 bytes, or over 128 bytes.
+    RecipeLength { bytes: usize },
+    /// 2: a step's code is over 8.
+    StepCode { step: usize },
+    /// 3: a step's field is not allowed.
+    StepField { step: usize },
+    /// 4: too few signals held or a ninth added at this step; at the end, where `step` is the
+    /// number of steps: not one signal left.
+    SignalsHeld { step: usize },
+    /// 5: the reach leaves -4 to 4 after this step.
+    Reach { step: usize },
+    /// 6: fewer elements lent for terms than needed.
+    TermsLent { needed: usize },
+    /// 7: a term is over 511, not above its predecessor, or contains an earlier one.
+    Term { index: usize },
+    /// 8: a form has over 126 terms.
+    FormSize { terms: usize },
+    /// 9: the scan has no samples, or over 16,384.
+    ScanSize { samples: usize },
+    /// 10: the output slice has the wrong length (reading a file: fewer than the samples).
+    OutputLength { needed: usize },
+    /// 11: the scan file is badly laid out.
+    FileLayout,
+    /// 12: the truth table is not positive.
+    NotPositive { pattern: usize },
+    /// 13: the slice of the truth table has not 64 bytes.
+    TableLength { bytes: usize },
+    /// 14: a preset number over 19.
+    PresetNumber { number: usize },
+}
+
+impl Refusal {
+    /// The refusal that has this number and this place.
+    pub(crate) fn new(number: u8, place: usize) -> Refusal {
+        match number {
+            1 => Refusal::RecipeLength { bytes: place },
+            2 => Refusal::StepCode { step: place },
+            3 => Refusal::StepField { step: place },
+            4 => Refusal::SignalsHeld { step: place },
+            5 => Refusal::Reach { step: place },
+            6 => Refusal::TermsLent { needed: place },
+            7 => Refusal::Term { index: place },
+            8 => Refusal::FormSize { terms: place },
+            9 => Refusal::ScanSize { samples: place },
+            10 => Refusal::OutputLength { needed: place },
+            11 => Refusal::FileLayout,
+            12 => Refusal::NotPositive { pattern: place },
+            13 => Refusal::TableLength { bytes: place },
+            14 => Refusal::PresetNumber { number: place },
+            _ => panic!("the archive refused with the number {number}, which this package does not know"),
+        }
+    }
+
+    /// The refusal's number, 1 to 14.
+    pub fn number(&self) -> u8 {
+        match self {
+            Refusal::RecipeLength { .. } => 1,
+            Refusal::StepCode { .. } => 2,
+            Refusal::StepField { .. } => 3,
+            Refusal::SignalsHeld { .. } => 4,
+            Refusal::Reach { .. } => 5,
+            Refusal::TermsLent { .. } => 6,
+            Refusal::Term { .. } => 7,
+            Refusal::FormSize { .. } => 8,
+            Refusal::ScanSize { .. } => 9,
+            Refusal::OutputLength { .. } => 10,
+            Refusal::FileLayout => 11,
+            Refusal::NotPositive { .. } => 12,
+            Refusal::TableLength { .. } => 13,
+            Refusal::PresetNumber { .. } => 14,
+        }
+    }
+
+    /// The place at fault: a step, an index, a pattern, a number, or the length or size that was
+    /// given (1, 8, 9, 13) or is needed (6, 10). It is 0 for a scan file badly laid out.
+    pub fn place(&self) -> usize {
+        match *self {
+            Refusal::StepCode { step }
+            | Refusal::StepField { step }
+            | Refusal::SignalsHeld { step }
+            | Refusal::Reach { step } => step,
+            Refusal::RecipeLength { bytes } | Refusal::TableLength { bytes } => bytes,
+            Refusal::TermsLent { needed } | Refusal::OutputLength { needed } => needed,
+            Refusal::Term { index } => index,
+            Refusal::FormSize { terms } => terms,
+            Refusal::ScanSize { samples } => samples,
+            Refusal::FileLayout => 0,
+            Refusal::NotPositive { pattern } => pattern,
+            Refusal::PresetNumber { number } => number,
+        }
+    }
+}
+
+impl fmt::Display for Refusal {
+    fn fmt(&self, f: &mut fmt::Formatter) -> fmt::Result {
+        let place = self.place();
+        match self {
+            Refusal::RecipeLength { .. } => {
+                write!(f, "a recipe has 4 to 128 bytes, a multiple of 4, and this has {place}")
+            }
+            Refusal::StepCode { .. } => write!(f, "step {place} has a code over 8"),
+            Refusal::StepField { .. } => write!(f, "step {place} has a field that is not allowed"),
+            Refusal::SignalsHeld { .. } => {
+                write!(f, "at step {place} too few signals are held, a ninth is added, or not one is left at the end")
+            }
+            Refusal::Reach { .. } => write!(f, "at step {place} the reach leaves -4 to 4"),
+            Refusal::TermsLent { .. } => {
+                write!(f, "{place} elements are needed for the terms, and fewer were lent")
+            }
+            Refusal::Term { .. } => {
+                write!(f, "term {place} is over 511, not above its predecessor, or contains an earlier one")
+            }
+            Refusal::FormSize { .. } => {
+                write!(f, "a form has at most 126 terms, and this has {place}")
+            }
+            Refusal::ScanSize { .. } => {
+                write!(f, "a scan has 1 to 16,384 samples, and this has {place}")
+            }
+            Refusal::OutputLength { .. } => {
+                write!(f, "the output has the wrong length, and {place} is needed")
+            }
+            Refusal::FileLayout => write!(f, "the scan file is badly laid out"),
+            Refusal::NotPositive { .. } => {
+                write!(f, "the truth table is 1 on pattern {place} and 0 with one offset more, so it is not positive")
+            }
+            Refusal::TableLength { .. } => {
+                write!(f, "a truth table has 64 bytes, and this slice has {place}")
+            }
+            Refusal::PresetNumber { .. } => {
+                write!(f, "presets have the numbers 0 to 19, and {place} was asked for")
+            }
+        }
+    }
+}
+
+impl Error for Refusal {}

@@ -1,0 +1,195 @@
+//! The scope document's cases, through the safe interface.
+
+use stackfilter::*;
+
+/// A recipe of these steps after a signal.
+fn after_signal(steps: &[Step]) -> Vec<u8> {
+    recipe(&[&[Step::Signal], steps].concat())
+}
+
+#[test]
+fn recipes_compile_to_their_forms() {
+    let cases: [(&[Step], &[u16]); 14] = [
+        (&[], &[16]),
+        (&[Step::Median(56)], &[24, 40, 48]),
+        (&[Step::Open(48)], &[24, 48]),
+        (&[Step::Close(48)], &[16, 40]),
+        (&[Step::Dilate(48)], &[8, 16]),
+        (&[Step::Rank(1, 48)], &[16, 32]),
+        (&[Step::Open(56)], &[28, 56, 112]),
+        (&[Step::Close(48), Step::Signal, Step::Smaller], &[16]),
+        (&[Step::Erode(257)], &[257]),
+        (&[Step::Open(496)], &[31, 62, 124, 248, 496]),
+        (&[Step::Close(176)], &[16, 70, 76, 98, 104, 134, 140, 162, 168]),
+        (&[Step::Open(48), Step::Close(48)], &[24, 48, 108]),
+        (&[Step::Erode(256), Step::Dilate(256)], &[16]),
+        (&[Step::Erode(256), Step::Open(256)], &[256]),
+    ];
+    for (steps, terms) in cases {
+        assert_eq!(compile(&after_signal(steps)).as_deref(), Ok(terms), "{steps:?}");
+    }
+    assert_eq!(compile(&after_signal(&[Step::Rank(5, 511)])).map(|terms| terms.len()), Ok(MOST_TERMS));
+}
+
+#[test]
+fn faulty_recipes_are_refused() {
+    let cases: [(&[Step], Refusal); 6] = [
+        (&[Step::Open(504)], Refusal::Reach { step: 1 }),
+        (&[Step::Erode(1), Step::Erode(1)], Refusal::Reach { step: 2 }),
+        (&[Step::Erode(256), Step::Open(48)], Refusal::Reach { step: 2 }),
+        (&[Step::Erode(0)], Refusal::StepField { step: 1 }),
+        (&[Step::Median(48)], Refusal::StepField { step: 1 }),
+        (&[Step::Signal], Refusal::SignalsHeld { step: 2 }),
+    ];
+    for (steps, refusal) in cases {
+        assert_eq!(compile(&after_signal(steps)), Err(refusal), "{steps:?}");
+        assert_eq!(run_recipe(&after_signal(steps), &[7]), Err(refusal), "{steps:?}");
+    }
+    assert_eq!(compile(&[]), Err(Refusal::RecipeLength { bytes: 0 }));
+    assert_eq!(compile(&[0; 132]), Err(Refusal::RecipeLength { bytes: 132 }));
+    assert_eq!(compile(&[0, 0, 0, 0, 9, 1, 1, 1]), Err(Refusal::StepCode { step: 1 }));
+    assert_eq!(compile(&[0; 36]), Err(Refusal::SignalsHeld { step: 8 }));
+}
+
+#[test]
+fn recipes_run_on_the_endless_signal() {
+    let cases: [(&[Step], &[u16], &[u16]); 3] = [
+        (&[Step::Erode(56), Step::Dilate(56)], &[5, 0, 0], &[5, 0, 0]),
+        (&[Step::Erode(1)], &[7], &[7]),
+        (&[Step::Close(176)], &[1, 1, 0, 0, 1, 0], &[1, 1, 1, 0, 1, 0]),
+    ];
+    for (steps, scan, cleaned) in cases {
+        let steps = after_signal(steps);
+        assert_eq!(run_recipe(&steps, scan).as_deref(), Ok(cleaned));
+        assert_eq!(compile(&steps).and_then(|terms| clean(&terms, scan)).as_deref(), Ok(cleaned));
+    }
+}
+
+#[test]
+fn constant_forms_give_constants() {
+    assert_eq!(clean(&[], &[3, 9]), Ok(vec![0, 0]));
+    assert_eq!(clean(&[0], &[3, 9]), Ok(vec![65_535, 65_535]));
+    assert_eq!(residue(&[0], &[0, 65_535]), Ok(vec![-65_535, 0]));
+    assert_eq!(residue(&[], &[0, 65_535]), Ok(vec![0, 65_535]));
+}
+
+#[test]
+fn faulty_forms_are_refused_by_every_call_that_takes_one() {
+    for terms in [[24, 16], [16, 24], [16, 16], [16, 512]] {
+        let refusal = Refusal::Term { index: 1 };
+        assert_eq!(clean(&terms, &[7]), Err(refusal));
+        assert_eq!(residue(&terms, &[7]), Err(refusal));
+        assert_eq!(root(&terms, &[7]), Err(refusal));
+        assert_eq!(form_to_table(&terms), Err(refusal));
+        assert_eq!(write(&terms, &[7]), Err(refusal));
+    }
+}
+
+#[test]
+fn scans_have_1_to_16384_samples() {
+    for samples in [0, MOST_SAMPLES + 1] {
+        let scan = vec![7; samples];
+        let refusal = Refusal::ScanSize { samples };
+        assert_eq!(clean(&[16], &scan), Err(refusal));
+        assert_eq!(run_recipe(&after_signal(&[]), &scan), Err(refusal));
+        assert_eq!(write(&[16], &scan), Err(refusal));
+    }
+    let longest = vec![7; MOST_SAMPLES];
+    assert_eq!(clean(&[16], &longest).as_ref(), Ok(&longest));
+    assert_eq!(root(&[16], &longest), Ok(None));
+}
+
+#[test]
+fn lent_slices_keep_what_no_answer_fills() {
+    let mut out = [1, 2, 3];
+    assert_eq!(clean_into(&[16], &[7, 8], &mut out), Err(Refusal::OutputLength { needed: 2 }));
+    assert_eq!(
+        run_recipe_into(&after_signal(&[]), &[7, 8], &mut out),
+        Err(Refusal::OutputLength { needed: 2 })
+    );
+    assert_eq!(preset_into(10, &mut out[..2]), Err(Refusal::TermsLent { needed: 3 }));
+    assert_eq!(table_to_form_into(&[255; 63], &mut out), Err(Refusal::TableLength { bytes: 63 }));
+    assert_eq!(out, [1, 2, 3]);
+    assert_eq!(table_to_form_into(&[255; 64], &mut out), Ok(1));
+    assert_eq!(out, [0, 2, 3]);
+    assert_eq!(preset_into(0, &mut []), Ok(0));
+
+    let mut table = [9; 65];
+    assert_eq!(form_to_table_into(&[16], &mut table), Err(Refusal::TableLength { bytes: 65 }));
+    assert_eq!(table, [9; 65]);
+    assert_eq!(form_to_table_into(&[24, 40, 48], &mut table[..64]), Ok(3));
+
+    let mut residues = [5];
+    assert_eq!(residue_into(&[16], &[7, 8], &mut residues), Err(Refusal::OutputLength { needed: 2 }));
+    assert_eq!(residues, [5]);
+}
+
+#[test]
+fn files_are_written_read_and_counted() {
+    let file = [
+        0x0A, 0, 0x0A, 0, 0x5A, 0, 0x0A, 0, 0x0A, 0, 0x18, 0, 0x28, 0, 0x30, 0, 0x1C, 0, 0, 0, 0x12, 0, 0, 0,
+        3, 0, 0x53, 0x46,
+    ];
+    let scan = [10, 10, 90, 10, 10];
+    let terms = [24, 40, 48];
+    assert_eq!(write(&terms, &scan).as_deref(), Ok(&file[..]));
+    assert_eq!(read(&file), Ok(ScanFile { samples: scan.to_vec(), terms: terms.to_vec() }));
+    assert_eq!(count(&file), Ok(Counts { samples: 5, changed: 1, spikes: 1, above: 80, below: 0 }));
+    assert_eq!(count(&[]), Err(Refusal::FileLayout));
+
+    let (mut samples, mut read_terms) = ([1; 6], [2; 4]);
+    assert_eq!(
+        read_into(&file, &mut samples[..4], &mut read_terms[..2]),
+        Err(Refusal::TermsLent { needed: 3 })
+    );
+    assert_eq!(
+        read_into(&file, &mut samples[..4], &mut read_terms),
+        Err(Refusal::OutputLength { needed: 5 })
+    );
+    assert_eq!((samples, read_terms), ([1; 6], [2; 4]));
+    assert_eq!(read_into(&file, &mut samples, &mut read_terms), Ok((5, 3)));
+    assert_eq!((samples, read_terms), ([10, 10, 90, 10, 10, 1], [24, 40, 48, 2]));
+
+    let mut short = [3; 27];
+    assert_eq!(write_into(&terms, &scan, &mut short), Err(Refusal::OutputLength { needed: 28 }));
+    assert_eq!(short, [3; 27]);
+}
+
+#[test]
+fn presets_are_the_filters_of_three_samples() {
+    for number in 0..20 {
+        let terms = preset(number).unwrap();
+        assert_eq!(table_to_form(&form_to_table(&terms).unwrap()), Ok(terms));
+    }
+    assert_eq!(preset(12), Ok(vec![16, 40]));
+    assert_eq!(preset(1 << 32), Err(Refusal::PresetNumber { number: 1 << 32 }));
+}
+
+#[test]
+fn each_refusal_has_its_number_its_place_and_its_own_sentence() {
+    let refusals = [
+        Refusal::RecipeLength { bytes: 3 },
+        Refusal::StepCode { step: 3 },
+        Refusal::StepField { step: 3 },
+        Refusal::SignalsHeld { step: 3 },
+        Refusal::Reach { step: 3 },
+        Refusal::TermsLent { needed: 3 },
+        Refusal::Term { index: 3 },
+        Refusal::FormSize { terms: 3 },
+        Refusal::ScanSize { samples: 3 },
+        Refusal::OutputLength { needed: 3 },
+        Refusal::FileLayout,
+        Refusal::NotPositive { pattern: 3 },
+        Refusal::TableLength { bytes: 3 },
+        Refusal::PresetNumber { number: 3 },
+    ];
+    let mut sentences = Vec::new();
+    for (index, refusal) in refusals.iter().enumerate() {
+        assert_eq!(refusal.number() as usize, index + 1);
+        assert_eq!(refusal.place(), if refusal.number() == 11 { 0 } else { 3 });
+        sentences.push(refusal.to_string());
+    }
+    sentences.sort();
+    sentences.dedup();
+    assert_eq!(sentences.len(), refusals.len());
+}

@@ -1,0 +1,138 @@
+//! A second implementation of every call, written from the scope document's definitions alone and
+//! by other means than the crates: filters count levels, recipes are trees asked for a stretch of
+//! the endless signal, tables and forms go pattern by pattern.
+//!
+//! Each call takes the lengths lent in place of slices and gives what must be written, or the
+//! refusal's number and place.
+
+pub mod files;
+pub mod forms;
+pub mod recipes;
+
+/// A refusal's number and place.
+pub type No = (u8, usize);
+
+pub const MOST_SAMPLES: usize = 16_384;
+pub const MOST_TERMS: usize = 126;
+
+pub fn compile(recipe: &[u8], lent: usize) -> Result<Vec<u16>, No> {
+    let plan = recipes::judge(recipe)?;
+    let terms = forms::least_patterns(|pattern| recipes::holds(&plan, pattern));
+    enough_for_terms(terms, lent)
+}
+
+pub fn run_recipe(recipe: &[u8], scan: &[u16], lent: usize) -> Result<Vec<u16>, No> {
+    let plan = recipes::judge(recipe)?;
+    check_scan(scan.len())?;
+    check_output(scan.len(), lent)?;
+    Ok(recipes::run(&plan, scan))
+}
+
+pub fn clean(terms: &[u16], scan: &[u16], lent: usize) -> Result<Vec<u16>, No> {
+    forms::check(terms)?;
+    check_scan(scan.len())?;
+    check_output(scan.len(), lent)?;
+    Ok(forms::filter(terms, scan))
+}
+
+pub fn residue(terms: &[u16], scan: &[u16], lent: usize) -> Result<Vec<i32>, No> {
+    let cleaned = clean(terms, scan, lent)?;
+    Ok(residues(scan, &cleaned))
+}
+
+/// The first sample that differs from its filtered value, or the number of samples.
+pub fn root(terms: &[u16], scan: &[u16]) -> Result<usize, No> {
+    let cleaned = clean(terms, scan, scan.len())?;
+    let same = scan.iter().zip(&cleaned).take_while(|(raw, cleaned)| raw == cleaned);
+    Ok(same.count())
+}
+
+pub fn table_to_form(table: &[u8], lent: usize) -> Result<Vec<u16>, No> {
+    if table.len() != 64 {
+        return Err((13, table.len()));
+    }
+    let value = |pattern: u16| table[pattern as usize / 8] >> (pattern % 8) & 1 == 1;
+    if let Some(pattern) = forms::first_not_positive(value) {
+        return Err((12, pattern as usize));
+    }
+    enough_for_terms(forms::least_patterns(value), lent)
+}
+
+/// The table; the call gives back the number of terms.
+pub fn form_to_table(terms: &[u16], lent: usize) -> Result<Vec<u8>, No> {
+    forms::check(terms)?;
+    if lent != 64 {
+        return Err((13, lent));
+    }
+    Ok(forms::table(terms))
+}
+
+pub fn preset(number: u64, lent: usize) -> Result<Vec<u16>, No> {
+    let terms = forms::preset(number).ok_or((14, number as usize))?;
+    enough_for_terms(terms, lent)
+}
+
+/// The samples and the terms.
+pub fn read(file: &[u8], lent_samples: usize, lent_terms: usize) -> Result<(Vec<u16>, Vec<u16>), No> {
+    let (samples, terms) = read_sound(file)?;
+    let terms = enough_for_terms(terms, lent_terms)?;
+    if lent_samples < samples.len() {
+        return Err((10, samples.len()));
+    }
+    Ok((samples, terms))
+}
+
+pub fn write(terms: &[u16], scan: &[u16], lent: usize) -> Result<Vec<u8>, No> {
+    forms::check(terms)?;
+    check_scan(scan.len())?;
+    let file = files::lay_out(scan, terms);
+    check_output(file.len(), lent)?;
+    Ok(file)
+}
+
+/// Samples, changed samples, spikes, total above, total below.
+pub fn count(file: &[u8]) -> Result<[u64; 5], No> {
+    let (samples, terms) = read_sound(file)?;
+    let residues = residues(&samples, &forms::filter(&terms, &samples));
+    let changed = residues.iter().filter(|r| **r != 0).count();
+    // Splitting at the unchanged samples leaves the spikes, and nothing between two neighbours.
+    let spikes = residues.split(|r| *r == 0).filter(|run| !run.is_empty()).count();
+    let above: u64 = residues.iter().filter(|r| **r > 0).map(|r| *r as u64).sum();
+    let below: u64 = residues.iter().filter(|r| **r < 0).map(|r| -*r as u64).sum();
+    Ok([samples.len() as u64, changed as u64, spikes as u64, above, below])
+}
+
+fn read_sound(file: &[u8]) -> Result<(Vec<u16>, Vec<u16>), No> {
+    let (samples, terms) = files::take_apart(file).ok_or((11, 0))?;
+    forms::check(&terms)?;
+    check_scan(samples.len())?;
+    Ok((samples, terms))
+}
+
+fn residues(scan: &[u16], cleaned: &[u16]) -> Vec<i32> {
+    scan.iter().zip(cleaned).map(|(raw, cleaned)| *raw as i32 - *cleaned as i32).collect()
+}
+
+/// Refusal 9.
+fn check_scan(samples: usize) -> Result<(), No> {
+    if samples == 0 || samples > MOST_SAMPLES {
+        return Err((9, samples));
+    }
+    Ok(())
+}
+
+/// Refusal 10.
+fn check_output(needed: usize, lent: usize) -> Result<(), No> {
+    if lent != needed {
+        return Err((10, needed));
+    }
+    Ok(())
+}
+
+/// Refusal 6.
+pub fn enough_for_terms(terms: Vec<u16>, lent: usize) -> Result<Vec<u16>, No> {
+    if lent < terms.len() {
+        return Err((6, terms.len()));
+    }
+    Ok(terms)
+}
