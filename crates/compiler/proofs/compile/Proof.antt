@@ -1,35 +1,24 @@
+-- `compiler::compile` meets its contract. Assumes nothing.
 use borrow.Author.Needs.{needs}
 use Rattle.compiler.proofs.Compiles.{compile-refused, compile-done}
 use Rattle.compiler.proofs.compile.Statement.{statement}
 use Rattle.compiler.proofs.compile.Tie as tie
-use Rattle.compiler.proofs.compile.Reads as reads
-use Rattle.compiler.proofs.compile.Lts as lts
-use Rattle.compiler.proofs.read_table.Reads as read-table-reads
-use Rattle.compiler.proofs.show_patterns.Reads as show-patterns-reads
-use Rattle.runner.proofs.run.Reads as run-reads
-use Rattle.tables.proofs.table_to_form.Reads as table-to-form-reads
 
--- src/lib.rt:78:16
 show-patterns-requires : tie.Need-show-patterns-requires
 show-patterns-requires c κs = search needs
 
--- src/lib.rt:80:38
 slice-aggregate-run : tie.Need-slice-aggregate-run
 slice-aggregate-run c = search needs
 
--- src/lib.rt:80:45
 slice-aggregate-run-2 : tie.Need-slice-aggregate-run-2
 slice-aggregate-run-2 c = search needs
 
--- src/lib.rt:80:9
 run-requires : tie.Need-run-requires
 run-requires c κs = search needs
 
--- src/lib.rt:81:28
 enum-known-answer : tie.Need-enum-known-answer
 enum-known-answer c = search needs
 
--- src/lib.rt:82:9
 returns : tie.Need-returns
 returns c =
     let at = c .before .before .before .before in
@@ -39,27 +28,21 @@ returns c =
 enum-told : tie.Need-enum-told
 enum-told c = search needs
 
--- src/lib.rt:84:28
 slice-aggregate-read-table : tie.Need-slice-aggregate-read-table
 slice-aggregate-read-table c = search needs
 
--- src/lib.rt:84:17
 read-table-requires : tie.Need-read-table-requires
 read-table-requires c κs = search needs
 
--- src/lib.rt:85:27
 slice-aggregate-table-to-form : tie.Need-slice-aggregate-table-to-form
 slice-aggregate-table-to-form c = search needs
 
--- src/lib.rt:85:5
 table-to-form-requires : tie.Need-table-to-form-requires
 table-to-form-requires c κs = search needs
 
--- src/lib.rt:75:1
 same-length : tie.Need-same-length
 same-length c = search needs
 
--- src/lib.rt:75:1
 returns-2 : tie.Need-returns-2
 returns-2 c =
     let formed = c .before .before in

@@ -1,3 +1,4 @@
+-- `compiler::read_table` meets its contract. Assumes nothing.
 use borrow.Author.Needs.{needs}
 use Prim.Native.Nat.{_+_, _*_, _-_, _≤_}
 use native.Mathlib.Omega.{arith}
@@ -11,9 +12,6 @@ use Rattle.theory.proofs.Lists.{tab-none, tab-more}
 use Rattle.compiler.specs.Patterns.{middles}
 use Rattle.compiler.proofs.read_table.Statement.{statement}
 use Rattle.compiler.proofs.read_table.Tie as tie
-use Rattle.compiler.proofs.read_table.Reads as reads
-use Rattle.compiler.proofs.read_table.Lts as lts
-use Rattle.compiler.proofs.read_byte.Reads as read-byte-reads
 
 abbrev Inv-loop : tie.InvT-loop
 Inv-loop out table₀ j₀ table j = (j ≤ 64) × (table ≡ tab j (λ k. gather 8 (λ i. middles out (8 * k + i))) ++ drop j table₀)
@@ -21,33 +19,26 @@ Inv-loop out table₀ j₀ table j = (j ≤ 64) × (table ≡ tab j (λ k. gathe
 abbrev μ-loop : tie.MeasureT-loop
 μ-loop out table₀ j₀ table j = 64 - j
 
--- src/lib.rt:65:5
 loop-holds : tie.Need-loop-holds Inv-loop μ-loop
 loop-holds c = (search needs, tab-none _ _)
 
--- src/lib.rt:66:20
 read-byte-requires : tie.Need-read-byte-requires Inv-loop μ-loop
 read-byte-requires c κs = search needs
 
--- src/lib.rt:66:9
 array-write-table : tie.Need-array-write-table Inv-loop μ-loop
 array-write-table c = search needs
 
--- src/lib.rt:67:9
 add-j : tie.Need-add-j Inv-loop μ-loop
 add-j c = search needs
 
--- src/lib.rt:65:5
 loop-less : tie.Need-loop-less Inv-loop μ-loop
 loop-less c = search needs
 
--- src/lib.rt:65:5
 loop-again : tie.Need-loop-again Inv-loop μ-loop
 loop-again c =
     let at = c .before .before in
     (omega arith, rw (at .loop .inv .1, c .read-byte .ensures) (tab-more 0 (λ k. gather 8 (λ i. middles (at .before .before .args .out .now) (8 * k + i))) _ (at .loop .j) (omega arith)))
 
--- src/lib.rt:59:1
 returns : tie.Need-returns Inv-loop μ-loop
 unfolding tableOf
 returns c =

@@ -1,3 +1,4 @@
+-- `compiler::show_patterns` meets its contract. Assumes nothing.
 use borrow.Author.Needs.{needs}
 use Prim.Native.Nat.{_-_, _≤_, _/_, _%_}
 use native.Mathlib.Omega.{arith}
@@ -10,9 +11,6 @@ use Rattle.theory.proofs.Lists.{tab-none, tab-more}
 use Rattle.compiler.specs.Patterns.{patternScan}
 use Rattle.compiler.proofs.show_patterns.Statement.{statement}
 use Rattle.compiler.proofs.show_patterns.Tie as tie
-use Rattle.compiler.proofs.show_patterns.Reads as reads
-use Rattle.compiler.proofs.show_patterns.Lts as lts
-use Rattle.compiler.proofs.show.Reads as show-reads
 
 abbrev Inv-loop : tie.InvT-loop
 Inv-loop scan₀ j₀ scan j = (j ≤ 4608) × (scan ≡ tab j (λ k. bit (has (k / 9) (k % 9))) ++ drop j scan₀)
@@ -20,37 +18,29 @@ Inv-loop scan₀ j₀ scan j = (j ≤ 4608) × (scan ≡ tab j (λ k. bit (has (
 abbrev μ-loop : tie.MeasureT-loop
 μ-loop scan₀ j₀ scan j = 4608 - j
 
--- src/lib.rt:29:5
 loop-holds : tie.Need-loop-holds Inv-loop μ-loop
 loop-holds c = (search needs, tab-none _ _)
 
--- src/lib.rt:30:19
 show-requires : tie.Need-show-requires Inv-loop μ-loop
 show-requires c κs = search needs
 
--- src/lib.rt:30:9
 mul-scan : tie.Need-mul-scan Inv-loop μ-loop
 mul-scan c = search needs
 
--- src/lib.rt:30:9
 array-write-scan : tie.Need-array-write-scan Inv-loop μ-loop
 array-write-scan c = search needs
 
--- src/lib.rt:31:9
 add-j : tie.Need-add-j Inv-loop μ-loop
 add-j c = search needs
 
--- src/lib.rt:29:5
 loop-less : tie.Need-loop-less Inv-loop μ-loop
 loop-less c = search needs
 
--- src/lib.rt:29:5
 loop-again : tie.Need-loop-again Inv-loop μ-loop
 loop-again c =
     let at = c .before .before in
     (omega arith, rw (at .loop .inv .1, c .show .ensures) (tab-more 0 (λ k. bit (has (k / 9) (k % 9))) _ (at .loop .j) (omega arith)))
 
--- src/lib.rt:24:1
 returns : tie.Need-returns Inv-loop μ-loop
 unfolding patternScan
 returns c =

@@ -1,22 +1,17 @@
+-- `exports::five_in` meets its contract. Assumes nothing.
 use borrow.Author.Needs.{needs}
 use Rattle.exports.proofs.five_in.Statement.{statement}
 use Rattle.exports.proofs.five_in.Tie as tie
-use Rattle.exports.proofs.five_in.Reads as reads
-use Rattle.exports.proofs.five_in.Lts as lts
 
--- src/lib.rt:234:30
 enum-known-answer : tie.Need-enum-known-answer
 enum-known-answer c = search needs
 
--- src/lib.rt:241:36
 enum-told : tie.Need-enum-told
 enum-told c = search needs
 
--- src/lib.rt:230:1
 returns : tie.Need-returns
 returns c = rw (c .before .answer .given .1)
 
--- src/lib.rt:230:1
 returns-2 : tie.Need-returns-2
 returns-2 c = search needs
 

@@ -1,3 +1,4 @@
+-- `runner::change_last` meets its contract. Assumes nothing.
 use borrow.Author.Needs.{needs}
 use native.Mathlib.Omega.{arith}
 use native.Mathlib.Nat.{mul-le-mul-right}
@@ -9,11 +10,7 @@ use Rattle.recipes.specs.Steps.{meant}
 use Rattle.runner.proofs.Stacks.{rows-replaced}
 use Rattle.runner.proofs.change_last.Statement.{statement}
 use Rattle.runner.proofs.change_last.Tie as tie
-use Rattle.runner.proofs.change_last.Reads as reads
-use Rattle.runner.proofs.change_last.Lts as lts
-use Rattle.runner.proofs.change.Reads as change-reads
 
--- src/lib.rt:283:15
 mul-end : tie.Need-mul-end
 mul-end c =
     let a = c .before .before .args in
@@ -21,7 +18,6 @@ mul-end c =
     let all = mul-le-mul-right (a .m) (c .before .before .pre .0 .few) in
     omega arith
 
--- src/lib.rt:284:17
 sub-start : tie.Need-sub-start
 sub-start c =
     let a = c .before .before .args in
@@ -29,7 +25,6 @@ sub-start c =
     let all = mul-le-mul-right (a .m) (c .before .before .pre .0 .few) in
     omega arith
 
--- src/lib.rt:285:12
 mul-change : tie.Need-mul-change
 mul-change c =
     let a = c .before .before .args in
@@ -37,15 +32,12 @@ mul-change c =
     let all = mul-le-mul-right (a .m) (c .before .before .pre .0 .few) in
     omega arith
 
--- src/lib.rt:285:12
 sub-change : tie.Need-sub-change
 sub-change c = search needs
 
--- src/lib.rt:285:12
 part-change-start : tie.Need-part-change-start
 part-change-start c = search needs
 
--- src/lib.rt:285:12
 part-change-end : tie.Need-part-change-end
 part-change-end c =
     let a = c .before .before .args in
@@ -53,7 +45,6 @@ part-change-end c =
     let all = mul-le-mul-right (a .m) (c .before .before .pre .0 .few) in
     search needs
 
--- src/lib.rt:285:5
 change-requires : tie.Need-change-requires
 change-requires c κs =
     let a = c .before .before .before .before .args in
@@ -63,15 +54,12 @@ change-requires c κs =
     let sized = mid-length (n - a .m) (n - (n - a .m)) (a .held .now) (omega arith) in
     (c .before .before .before .before .pre .2, omega arith, omega arith, omega arith)
 
--- src/lib.rt:279:1
 same-length : tie.Need-same-length
 same-length c = search needs
 
--- src/lib.rt:279:1
 same-length-2 : tie.Need-same-length-2
 same-length-2 c = search needs
 
--- src/lib.rt:279:1
 returns : tie.Need-returns
 returns c =
     let a = c .before .before .before .before .before .before .before .before .before .args in

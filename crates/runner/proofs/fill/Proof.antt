@@ -1,3 +1,4 @@
+-- `runner::fill` meets its contract. Assumes nothing.
 use borrow.Author.Needs.{needs}
 use native.Mathlib.Omega.{arith}
 use Prim.Native.Nat.{ℕ, _+_, _*_, _≤_}
@@ -7,20 +8,13 @@ use Rattle.runner.specs.Rows.{part}
 use Rattle.runner.proofs.Fine.{ran-row}
 use Rattle.runner.proofs.fill.Statement.{statement}
 use Rattle.runner.proofs.fill.Tie as tie
-use Rattle.runner.proofs.fill.Reads as reads
-use Rattle.runner.proofs.fill.Lts as lts
-use Rattle.runner.proofs.copy.Reads as copy-reads
-use Rattle.runner.proofs.walk.Reads as walk-reads
 
--- src/lib.rt:370:24
 slice-aggregate-walk : tie.Need-slice-aggregate-walk
 slice-aggregate-walk c = search needs
 
--- src/lib.rt:370:35
 slice-aggregate-walk-2 : tie.Need-slice-aggregate-walk-2
 slice-aggregate-walk-2 c = search needs
 
--- src/lib.rt:370:5
 walk-requires : tie.Need-walk-requires
 walk-requires c κs =
     let p = c .before .before .before .before .before .pre .0 in
@@ -28,19 +22,15 @@ walk-requires c κs =
     let wide : length (c .before .before .before .before .before .args .scan .now) + 24 ≤ 16408 = omega (arith, p .most) in
     (p, search needs, search needs)
 
--- src/lib.rt:371:15
 slice-aggregate-copy : tie.Need-slice-aggregate-copy
 slice-aggregate-copy c = search needs
 
--- src/lib.rt:371:5
 copy-requires : tie.Need-copy-requires
 copy-requires c κs = search needs
 
--- src/lib.rt:364:1
 same-length : tie.Need-same-length
 same-length c = search needs
 
--- src/lib.rt:364:1
 returns : tie.Need-returns
 returns c =
     let a = c .before .before .before .before .before .before .before .before .before .before .before .before .before .args in

@@ -1,16 +1,13 @@
+-- `runner::greater` meets its contract. Assumes nothing.
 use borrow.Author.Tests.{le-leb, lt-leb}
 use Rattle.theory.specs.Orders.{counts, larger}
 use Rattle.runner.proofs.greater.Statement.{statement}
 use Rattle.runner.proofs.greater.Tie as tie
-use Rattle.runner.proofs.greater.Reads as reads
-use Rattle.runner.proofs.greater.Lts as lts
 
--- src/lib.rt:19:1
 returns : tie.Need-returns
 unfolding larger counts
 returns c = rw (le-leb _ _ (c .if1 .taken))
 
--- src/lib.rt:19:1
 returns-2 : tie.Need-returns-2
 unfolding larger counts
 returns-2 c = rw (lt-leb _ _ (c .if1 .left))

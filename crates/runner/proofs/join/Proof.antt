@@ -1,3 +1,4 @@
+-- `runner::join` meets its contract. Assumes nothing.
 use borrow.Author.Needs.{needs}
 use native.Mathlib.Omega.{arith}
 use native.Mathlib.Nat.{mul-le-mul-right}
@@ -8,12 +9,7 @@ use Rattle.runner.proofs.Parts.{mid-length}
 use Rattle.runner.proofs.Stacks.{rows-joined}
 use Rattle.runner.proofs.join.Statement.{statement}
 use Rattle.runner.proofs.join.Tie as tie
-use Rattle.runner.proofs.join.Reads as reads
-use Rattle.runner.proofs.join.Lts as lts
-use Rattle.runner.proofs.merge.Reads as merge-reads
-use Rattle.runner.proofs.widen.Reads as widen-reads
 
--- src/lib.rt:294:15
 mul-end : tie.Need-mul-end
 mul-end c =
     let a = c .before .before .args in
@@ -21,7 +17,6 @@ mul-end c =
     let all = mul-le-mul-right (a .m) (c .before .before .pre .0 .few) in
     omega arith
 
--- src/lib.rt:295:15
 sub-top : tie.Need-sub-top
 sub-top c =
     let a = c .before .before .args in
@@ -29,7 +24,6 @@ sub-top c =
     let all = mul-le-mul-right (a .m) (c .before .before .pre .0 .few) in
     omega arith
 
--- src/lib.rt:296:17
 sub-under : tie.Need-sub-under
 sub-under c =
     let a = c .before .before .args in
@@ -37,7 +31,6 @@ sub-under c =
     let all = mul-le-mul-right (a .m) (c .before .before .pre .0 .few) in
     omega arith
 
--- src/lib.rt:297:17
 mul-widen : tie.Need-mul-widen
 mul-widen c =
     let a = c .before .before .before .args in
@@ -45,15 +38,12 @@ mul-widen c =
     let all = mul-le-mul-right (a .m) (c .before .before .before .pre .0 .few) in
     omega arith
 
--- src/lib.rt:297:17
 sub-widen : tie.Need-sub-widen
 sub-widen c = search needs
 
--- src/lib.rt:297:17
 part-widen-start : tie.Need-part-widen-start
 part-widen-start c = search needs
 
--- src/lib.rt:297:17
 part-widen-end : tie.Need-part-widen-end
 part-widen-end c =
     let a = c .before .before .before .before .args in
@@ -61,7 +51,6 @@ part-widen-end c =
     let all = mul-le-mul-right (a .m) (c .before .before .before .before .pre .0 .few) in
     search needs
 
--- src/lib.rt:297:5
 widen-requires : tie.Need-widen-requires
 widen-requires c κs =
     let a = c .before .before .before .before .before .args in
@@ -71,7 +60,6 @@ widen-requires c κs =
     let sized = mid-length (n - a .m) (n - (n - a .m)) (a .held .now) (omega arith) in
     (omega arith, omega arith, omega arith)
 
--- src/lib.rt:298:11
 mul-merge : tie.Need-mul-merge
 mul-merge c =
     let a = c .before .before .before .before .before .before .before .before .args in
@@ -79,15 +67,12 @@ mul-merge c =
     let all = mul-le-mul-right (a .m) (c .before .before .before .before .before .before .before .before .pre .0 .few) in
     omega arith
 
--- src/lib.rt:298:11
 sub-merge : tie.Need-sub-merge
 sub-merge c = search needs
 
--- src/lib.rt:298:11
 part-merge-start : tie.Need-part-merge-start
 part-merge-start c = search needs
 
--- src/lib.rt:298:11
 part-merge-end : tie.Need-part-merge-end
 part-merge-end c =
     let a = c .before .before .before .before .before .before .before .before .args in
@@ -95,23 +80,18 @@ part-merge-end c =
     let all = mul-le-mul-right (a .m) (c .before .before .before .before .before .before .before .before .pre .0 .few) in
     search needs
 
--- src/lib.rt:298:5
 merge-requires : tie.Need-merge-requires
 merge-requires c κs = search needs
 
--- src/lib.rt:299:5
 sub-result : tie.Need-sub-result
 sub-result c = search needs
 
--- src/lib.rt:290:1
 same-length : tie.Need-same-length
 same-length c = search needs
 
--- src/lib.rt:290:1
 same-length-2 : tie.Need-same-length-2
 same-length-2 c = search needs
 
--- src/lib.rt:290:1
 returns : tie.Need-returns
 returns c =
     let a = c .before .before .before .before .before .before .before .before .before .before .before .before .before .args in

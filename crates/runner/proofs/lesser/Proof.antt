@@ -1,16 +1,13 @@
+-- `runner::lesser` meets its contract. Assumes nothing.
 use borrow.Author.Tests.{le-leb, lt-leb}
 use Rattle.theory.specs.Orders.{counts, smaller}
 use Rattle.runner.proofs.lesser.Statement.{statement}
 use Rattle.runner.proofs.lesser.Tie as tie
-use Rattle.runner.proofs.lesser.Reads as reads
-use Rattle.runner.proofs.lesser.Lts as lts
 
--- src/lib.rt:12:1
 returns : tie.Need-returns
 unfolding smaller counts
 returns c = rw (le-leb _ _ (c .if1 .taken))
 
--- src/lib.rt:12:1
 returns-2 : tie.Need-returns-2
 unfolding smaller counts
 returns-2 c = rw (lt-leb _ _ (c .if1 .left))

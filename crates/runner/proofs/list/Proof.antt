@@ -1,3 +1,4 @@
+-- `runner::list` meets its contract. Assumes nothing.
 use borrow.Author.Needs.{needs}
 use native.Mathlib.Omega.{arith}
 use Prim.Native.Nat.{_-_}
@@ -6,10 +7,6 @@ use mathlib.Core.Path.{_≡_, refl, sym, ap, _∙_}
 use Rattle.runner.proofs.Listed.{Listed, listed-none, listed-more, listed-all, byte-is, byte-small}
 use Rattle.runner.proofs.list.Statement.{statement}
 use Rattle.runner.proofs.list.Tie as tie
-use Rattle.runner.proofs.list.Reads as reads
-use Rattle.runner.proofs.list.Lts as lts
-use Rattle.runner.proofs.is_in.Reads as is-in-reads
-use Rattle.runner.proofs.shift.Reads as shift-reads
 
 abbrev Inv-loop : tie.InvT-loop
 Inv-loop shifts₀ set mirrored base n₀ i₀ shifts n i = Listed mirrored base set shifts n i
@@ -17,53 +14,41 @@ Inv-loop shifts₀ set mirrored base n₀ i₀ shifts n i = Listed mirrored base
 abbrev μ-loop : tie.MeasureT-loop
 μ-loop shifts₀ set mirrored base n₀ i₀ shifts n i = 9 - i
 
--- src/lib.rt:108:5
 loop-holds : tie.Need-loop-holds Inv-loop μ-loop
 loop-holds c = listed-none _ _ _ _ (c .before .pre .0)
 
--- src/lib.rt:109:21
 shift-requires : tie.Need-shift-requires Inv-loop μ-loop
 shift-requires c κs = (omega arith, c .before .before .before .pre .1)
 
--- src/lib.rt:109:9
 mul-shifts : tie.Need-mul-shifts Inv-loop μ-loop
 mul-shifts c = search needs
 
--- src/lib.rt:109:9
 slice-write-shifts : tie.Need-slice-write-shifts Inv-loop μ-loop
 slice-write-shifts c = search needs
 
--- src/lib.rt:110:14
 is-in-requires : tie.Need-is-in-requires Inv-loop μ-loop
 is-in-requires c κs = search needs
 
--- src/lib.rt:110:14
 cast-n : tie.Need-cast-n Inv-loop μ-loop
 cast-n c = search needs
 
--- src/lib.rt:110:9
 add-n : tie.Need-add-n Inv-loop μ-loop
 add-n c = let b = byte-small (c .is-in .result) in record { fits = omega arith }
 
--- src/lib.rt:111:9
 add-i : tie.Need-add-i Inv-loop μ-loop
 add-i c = search needs
 
--- src/lib.rt:108:5
 loop-less : tie.Need-loop-less Inv-loop μ-loop
 loop-less c = search needs
 
--- src/lib.rt:108:5
 loop-again : tie.Need-loop-again Inv-loop μ-loop
 loop-again c =
     let at = c .before .before .before in
     listed-more (at .loop .inv) (omega arith) (c .before .shift .ensures) (byte-is (c .is-in .result) ∙ ap (λ (b : Bool). cond b 1 0) (c .is-in .ensures))
 
--- src/lib.rt:102:1
 same-length : tie.Need-same-length Inv-loop μ-loop
 same-length c = search needs
 
--- src/lib.rt:102:1
 returns : tie.Need-returns Inv-loop μ-loop
 returns c = (omega arith, listed-all (c .before .loop .inv) (omega arith))
 

@@ -1,3 +1,4 @@
+-- `runner::lowest` meets its contract. Assumes nothing.
 use borrow.Author.Needs.{needs}
 use native.Mathlib.Omega.{arith}
 use mathlib.Core.Bool.{false}
@@ -7,23 +8,16 @@ use Rattle.runner.specs.Rows.{shiftOf, low}
 use Rattle.runner.proofs.Listed.{first-listed, low-small}
 use Rattle.runner.proofs.lowest.Statement.{statement}
 use Rattle.runner.proofs.lowest.Tie as tie
-use Rattle.runner.proofs.lowest.Reads as reads
-use Rattle.runner.proofs.lowest.Lts as lts
-use Rattle.runner.proofs.list.Reads as list-reads
 
--- src/lib.rt:149:10
 slice-aggregate-list : tie.Need-slice-aggregate-list
 slice-aggregate-list c = search needs
 
--- src/lib.rt:149:5
 list-requires : tie.Need-list-requires
 list-requires c κs = search needs
 
--- src/lib.rt:150:5
 array-read-result : tie.Need-array-read-result
 array-read-result c = search needs
 
--- src/lib.rt:144:1
 returns : tie.Need-returns
 unfolding shiftOf
 returns c =

@@ -1,3 +1,4 @@
+-- `runner::merge` meets its contract. Assumes nothing.
 use borrow.Author.Needs.{needs}
 use Prim.Native.Nat.{ℕ, _+_, _-_, _≤_}
 use native.Mathlib.Omega.{arith}
@@ -7,9 +8,6 @@ use Rattle.theory.proofs.Fills.{Filled, fill-none, fill-here, fill-more, fill-a
 use Rattle.runner.specs.Rows.{chosen, merged}
 use Rattle.runner.proofs.merge.Statement.{statement}
 use Rattle.runner.proofs.merge.Tie as tie
-use Rattle.runner.proofs.merge.Reads as reads
-use Rattle.runner.proofs.merge.Lts as lts
-use Rattle.runner.proofs.choose.Reads as choose-reads
 
 abbrev Inv-loop : tie.InvT-loop
 Inv-loop dst₀ src from high j₀ dst j = Filled (λ k. chosen high (getD src (k + from) 0) (getD dst₀ k 0)) dst₀ dst j
@@ -17,59 +15,45 @@ Inv-loop dst₀ src from high j₀ dst j = Filled (λ k. chosen high (getD src (
 abbrev μ-loop : tie.MeasureT-loop
 μ-loop dst₀ src from high j₀ dst j = length dst₀ - j
 
--- src/lib.rt:65:5
 loop-holds : tie.Need-loop-holds Inv-loop μ-loop
 loop-holds c = fill-none _ _
 
--- src/lib.rt:66:35
 add-choose : tie.Need-add-choose Inv-loop μ-loop
 add-choose c = search needs
 
--- src/lib.rt:66:31
 mul-choose : tie.Need-mul-choose Inv-loop μ-loop
 mul-choose c = search needs
 
--- src/lib.rt:66:31
 shared-slice-read-choose : tie.Need-shared-slice-read-choose Inv-loop μ-loop
 shared-slice-read-choose c = search needs
 
--- src/lib.rt:66:46
 mul-choose-2 : tie.Need-mul-choose-2 Inv-loop μ-loop
 mul-choose-2 c = search needs
 
--- src/lib.rt:66:46
 slice-read-choose : tie.Need-slice-read-choose Inv-loop μ-loop
 slice-read-choose c = search needs
 
--- src/lib.rt:66:18
 choose-requires : tie.Need-choose-requires Inv-loop μ-loop
 choose-requires c κs = search needs
 
--- src/lib.rt:66:9
 mul-dst : tie.Need-mul-dst Inv-loop μ-loop
 mul-dst c = search needs
 
--- src/lib.rt:66:9
 slice-write-dst : tie.Need-slice-write-dst Inv-loop μ-loop
 slice-write-dst c = search needs
 
--- src/lib.rt:67:9
 add-j : tie.Need-add-j Inv-loop μ-loop
 add-j c = search needs
 
--- src/lib.rt:65:5
 loop-less : tie.Need-loop-less Inv-loop μ-loop
 loop-less c = search needs
 
--- src/lib.rt:65:5
 loop-again : tie.Need-loop-again Inv-loop μ-loop
 loop-again c = fill-more (c .before .before .before .before .loop .inv) (omega arith) (c .choose .ensures ∙ ap (chosen _ _) (fill-here 0 (c .before .before .before .before .loop .inv)))
 
--- src/lib.rt:60:1
 same-length : tie.Need-same-length Inv-loop μ-loop
 same-length c = search needs
 
--- src/lib.rt:60:1
 returns : tie.Need-returns Inv-loop μ-loop
 unfolding merged
 returns c = fill-all (c .before .loop .inv) (omega arith)

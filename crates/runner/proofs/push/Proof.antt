@@ -1,3 +1,4 @@
+-- `runner::push` meets its contract. Assumes nothing.
 use borrow.Author.Needs.{needs}
 use native.Mathlib.Omega.{arith}
 use Prim.Native.Nat.{ℕ, _+_, _-_, _*_}
@@ -10,59 +11,46 @@ use Rattle.runner.proofs.Columns.{row-fits}
 use Rattle.runner.proofs.Stacks.{rows-pushed}
 use Rattle.runner.proofs.push.Statement.{statement}
 use Rattle.runner.proofs.push.Tie as tie
-use Rattle.runner.proofs.push.Reads as reads
-use Rattle.runner.proofs.push.Lts as lts
-use Rattle.runner.proofs.widen.Reads as widen-reads
 
--- src/lib.rt:272:17
 mul-start : tie.Need-mul-start
 mul-start c =
     let a = c .before .before .args in
     let all = row-fits (a .h) 8 (a .m) (c .before .before .pre .2) in
     omega arith
 
--- src/lib.rt:273:15
 add-end : tie.Need-add-end
 add-end c =
     let a = c .before .before .args in
     let all = row-fits (a .h) 8 (a .m) (c .before .before .pre .2) in
     omega arith
 
--- src/lib.rt:274:11
 mul-widen : tie.Need-mul-widen
 mul-widen c =
     let a = c .before .before .args in
     let all = row-fits (a .h) 8 (a .m) (c .before .before .pre .2) in
     omega arith
 
--- src/lib.rt:274:11
 sub-widen : tie.Need-sub-widen
 sub-widen c = search needs
 
--- src/lib.rt:274:11
 part-widen-start : tie.Need-part-widen-start
 part-widen-start c = search needs
 
--- src/lib.rt:274:11
 part-widen-end : tie.Need-part-widen-end
 part-widen-end c =
     let a = c .before .before .args in
     let all = row-fits (a .h) 8 (a .m) (c .before .before .pre .2) in
     search needs
 
--- src/lib.rt:274:5
 widen-requires : tie.Need-widen-requires
 widen-requires c κs = search needs
 
--- src/lib.rt:275:5
 add-result : tie.Need-add-result
 add-result c = search needs
 
--- src/lib.rt:268:1
 same-length : tie.Need-same-length
 same-length c = search needs
 
--- src/lib.rt:268:1
 returns : tie.Need-returns
 returns c =
     let a = c .before .before .before .before .before .before .args in

@@ -1,3 +1,4 @@
+-- `runner::rank` meets its contract. Assumes nothing.
 use borrow.Author.Needs.{needs}
 use native.Mathlib.Omega.{arith}
 use Prim.Native.Nat.{ℕ, _+_, _≤_}
@@ -10,29 +11,19 @@ use Rattle.runner.specs.Rows.{around, picked, rankedRow}
 use Rattle.runner.proofs.Listed.{reaching, listed-size}
 use Rattle.runner.proofs.rank.Statement.{statement}
 use Rattle.runner.proofs.rank.Tie as tie
-use Rattle.runner.proofs.rank.Reads as reads
-use Rattle.runner.proofs.rank.Lts as lts
-use Rattle.runner.proofs.list.Reads as list-reads
-use Rattle.runner.proofs.select.Reads as select-reads
-use Rattle.runner.proofs.widen.Reads as widen-reads
 
--- src/lib.rt:240:22
 slice-aggregate-list : tie.Need-slice-aggregate-list
 slice-aggregate-list c = search needs
 
--- src/lib.rt:240:9
 list-requires : tie.Need-list-requires
 list-requires c κs = search needs
 
--- src/lib.rt:241:5
 widen-requires : tie.Need-widen-requires
 widen-requires c κs = search needs
 
--- src/lib.rt:242:23
 slice-aggregate-select : tie.Need-slice-aggregate-select
 slice-aggregate-select c = search needs
 
--- src/lib.rt:242:5
 select-requires : tie.Need-select-requires
 select-requires c κs =
     let a = c .before .before .before .before .before .before .before .before .before .before .before .before .before .args in
@@ -48,15 +39,12 @@ select-requires c κs =
       omega arith,
     )
 
--- src/lib.rt:235:1
 same-length : tie.Need-same-length
 same-length c = search needs
 
--- src/lib.rt:235:1
 same-length-2 : tie.Need-same-length-2
 same-length-2 c = search needs
 
--- src/lib.rt:235:1
 returns : tie.Need-returns
 unfolding rankedRow picked
 returns c =

@@ -1,45 +1,35 @@
+-- `runner::run` meets its contract. Assumes nothing.
 use borrow.Author.Needs.{needs}
 use mathlib.Core.Path.{sym, _∙_}
 use lib.ListN.{length}
 use Rattle.runner.proofs.Fine.{run-fine, run-written}
 use Rattle.runner.proofs.run.Statement.{statement}
 use Rattle.runner.proofs.run.Tie as tie
-use Rattle.runner.proofs.run.Reads as reads
-use Rattle.runner.proofs.run.Lts as lts
-use Rattle.runner.proofs.admit.Reads as admit-reads
-use Rattle.runner.proofs.fill.Reads as fill-reads
 
--- src/lib.rt:391:11
 admit-requires : tie.Need-admit-requires
 admit-requires c κs = search needs
 
--- src/lib.rt:393:32
 enum-told : tie.Need-enum-told
 enum-told c = search needs
 
--- src/lib.rt:393:13
 fill-requires : tie.Need-fill-requires
 fill-requires c κs =
     let admitted = c .before .before .before in
     let a = c .before .before .before .before .before .before .before .args in
     run-fine (a .recipe .now) (a .scan .now) (length (a .out .now)) (sym (admitted .admit .ensures) ∙ c .before .enum-told .given .1)
 
--- src/lib.rt:396:26
 enum-known-refusal : tie.Need-enum-known-refusal
 enum-known-refusal c = search needs
 
--- src/lib.rt:388:1
 same-length : tie.Need-same-length
 same-length c = search needs
 
--- src/lib.rt:388:1
 returns : tie.Need-returns
 returns c =
     let a = c .before .before .before .before .before .before .before .before .before .before .args in
     let fine = sym (c .before .before .before .before .before .before .admit .ensures) ∙ c .before .before .before .before .enum-told .given .1 in
     record { answer = rw fine; out = run-written (a .recipe .now) (a .scan .now) _ (a .out .now) fine (c .before .before .fill .ensures) }
 
--- src/lib.rt:388:1
 returns-2 : tie.Need-returns-2
 returns-2 c =
     let no = sym (c .before .before .before .admit .ensures) ∙ c .before .refusal .given .1 in

@@ -1,3 +1,4 @@
+-- `runner::stretch` meets its contract. Assumes nothing.
 use borrow.Author.Needs.{needs}
 use native.Mathlib.Omega.{arith}
 use Prim.Native.Nat.{ℕ, _+_}
@@ -8,29 +9,19 @@ use Rattle.runner.specs.Rows.{widened, around, extreme, picked, stretche
 use Rattle.runner.proofs.Listed.{reaching}
 use Rattle.runner.proofs.stretch.Statement.{statement}
 use Rattle.runner.proofs.stretch.Tie as tie
-use Rattle.runner.proofs.stretch.Reads as reads
-use Rattle.runner.proofs.stretch.Lts as lts
-use Rattle.runner.proofs.list.Reads as list-reads
-use Rattle.runner.proofs.sweep.Reads as sweep-reads
-use Rattle.runner.proofs.widen.Reads as widen-reads
 
--- src/lib.rt:137:22
 slice-aggregate-list : tie.Need-slice-aggregate-list
 slice-aggregate-list c = search needs
 
--- src/lib.rt:137:9
 list-requires : tie.Need-list-requires
 list-requires c κs = search needs
 
--- src/lib.rt:138:5
 widen-requires : tie.Need-widen-requires
 widen-requires c κs = search needs
 
--- src/lib.rt:139:22
 slice-aggregate-sweep : tie.Need-slice-aggregate-sweep
 slice-aggregate-sweep c = search needs
 
--- src/lib.rt:139:5
 sweep-requires : tie.Need-sweep-requires
 sweep-requires c κs =
     let a = c .before .before .before .before .before .before .before .before .before .before .before .before .before .args in
@@ -39,15 +30,12 @@ sweep-requires c κs =
     reaching (a .high) (a .base) (a .set) (c .before .before .before .before .before .before .before .before .before .list .last .0) (c .before .before .before .before .before .before .before .before .before .list .result) (c .before .before .before .before .before .before .before .before .before .before .before .before .before .pre .0 .not-none) (c .before .before .before .before .before .before .before .before .before .before .before .before .before .pre .0 .set) s (c .before .before .before .before .before .before .before .before .before .list .ensures .0) (c .before .before .before .before .before .before .before .before .before .list .ensures .1)
     (c .before .before .before .before .before .before .before .before .before .before .before .before .before .pre .1) (c .before .before .before .before .before .widen .last .0) (length (a .top .now)) r
 
--- src/lib.rt:132:1
 same-length : tie.Need-same-length
 same-length c = search needs
 
--- src/lib.rt:132:1
 same-length-2 : tie.Need-same-length-2
 same-length-2 c = search needs
 
--- src/lib.rt:132:1
 returns : tie.Need-returns
 unfolding stretched picked
 returns c =

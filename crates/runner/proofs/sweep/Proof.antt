@@ -1,3 +1,4 @@
+-- `runner::sweep` meets its contract. Assumes nothing.
 use borrow.Author.Needs.{needs}
 use native.Mathlib.Omega.{arith}
 use Prim.Native.Nat.{ℕ, _-_}
@@ -7,10 +8,6 @@ use Rattle.runner.specs.Rows.{part, around, extreme}
 use Rattle.runner.proofs.Sweeps.{Swept, swept-first, swept-more, swept-all}
 use Rattle.runner.proofs.sweep.Statement.{statement}
 use Rattle.runner.proofs.sweep.Tie as tie
-use Rattle.runner.proofs.sweep.Reads as reads
-use Rattle.runner.proofs.sweep.Lts as lts
-use Rattle.runner.proofs.copy.Reads as copy-reads
-use Rattle.runner.proofs.merge.Reads as merge-reads
 
 abbrev Inv-loop : tie.InvT-loop
 Inv-loop top₀ room shifts count high t₀ top t = Swept high (length top₀) count shifts room top t
@@ -18,23 +15,18 @@ Inv-loop top₀ room shifts count high t₀ top t = Swept high (length top₀) c
 abbrev μ-loop : tie.MeasureT-loop
 μ-loop top₀ room shifts count high t₀ top t = t
 
--- src/lib.rt:122:17
 sub-t : tie.Need-sub-t Inv-loop μ-loop
 sub-t c = search needs
 
--- src/lib.rt:123:21
 mul-copy : tie.Need-mul-copy Inv-loop μ-loop
 mul-copy c = search needs
 
--- src/lib.rt:123:21
 shared-slice-read-copy : tie.Need-shared-slice-read-copy Inv-loop μ-loop
 shared-slice-read-copy c = search needs
 
--- src/lib.rt:123:5
 copy-requires : tie.Need-copy-requires Inv-loop μ-loop
 copy-requires c κs = omega (arith, c .before .before .before .before .before .pre .near (c .before .before .before .before .before .args .count - 1) (omega arith))
 
--- src/lib.rt:124:5
 loop-holds : tie.Need-loop-holds Inv-loop μ-loop
 loop-holds c =
     let a = c .before .before .before .before .before .before .before .before .args in
@@ -42,39 +34,31 @@ loop-holds c =
     swept-first (a .high) (length (c .before .before .copy .last .0)) (a .count) (a .shifts .now) (a .room .now) (omega arith) (omega arith) (c .before .before .copy .last .0)
     (c .before .before .copy .ensures ∙ ap (λ (n : ℕ). part n (getD (a .shifts .now) (a .count - 1) 0) (a .room .now)) (sym same))
 
--- src/lib.rt:125:9
 sub-t-2 : tie.Need-sub-t-2 Inv-loop μ-loop
 sub-t-2 c = search needs
 
--- src/lib.rt:126:26
 mul-merge : tie.Need-mul-merge Inv-loop μ-loop
 mul-merge c = search needs
 
--- src/lib.rt:126:26
 shared-slice-read-merge : tie.Need-shared-slice-read-merge Inv-loop μ-loop
 shared-slice-read-merge c = search needs
 
--- src/lib.rt:126:9
 merge-requires : tie.Need-merge-requires Inv-loop μ-loop
 merge-requires c κs =
     let e = c .before .before .before .loop .inv .same in
     omega (arith, c .before .before .before .before .before .before .before .before .before .before .before .before .pre .near (c .before .before .before .loop .t - 1) (omega arith))
 
--- src/lib.rt:124:5
 loop-less : tie.Need-loop-less Inv-loop μ-loop
 loop-less c = search needs
 
--- src/lib.rt:124:5
 loop-again : tie.Need-loop-again Inv-loop μ-loop
 loop-again c =
     let a = c .before .before .before .before .before .before .before .before .before .before .before .before .before .before .before .args in
     swept-more (a .high) _ (a .count) (a .shifts .now) (a .room .now) (omega arith) (c .before .before .before .before .before .before .loop .t) (c .before .before .before .before .before .before .loop .top) (c .before .before .merge .last .0) (omega arith) (c .before .before .before .before .before .before .loop .inv) (c .before .before .merge .ensures)
 
--- src/lib.rt:118:1
 same-length : tie.Need-same-length Inv-loop μ-loop
 same-length c = omega arith
 
--- src/lib.rt:118:1
 returns : tie.Need-returns Inv-loop μ-loop
 returns c =
     let a = c .before .before .before .before .before .before .before .before .before .before .args in

@@ -1,3 +1,4 @@
+-- `runner::walk` meets its contract. Assumes nothing.
 use borrow.Author.Needs.{needs}
 use native.Mathlib.Omega.{arith}
 use Prim.Native.Nat.{ℕ, _+_, _-_}
@@ -7,10 +8,6 @@ use Rattle.runner.proofs.Parts.{mid-length, put-length}
 use Rattle.runner.proofs.Walks.{Going, going-start, going-good, going-ready, going-on, going-end}
 use Rattle.runner.proofs.walk.Statement.{statement}
 use Rattle.runner.proofs.walk.Tie as tie
-use Rattle.runner.proofs.walk.Reads as reads
-use Rattle.runner.proofs.walk.Lts as lts
-use Rattle.recipes.proofs.step_at.Reads as step-at-reads
-use Rattle.runner.proofs.perform.Reads as perform-reads
 
 abbrev Inv-loop : tie.InvT-loop
 Inv-loop recipe scan held₀ spare₀ steps end h₀ i₀ held spare h i = (length held ≡ length held₀) × (length spare ≡ length spare₀) × Going recipe scan held steps h i
@@ -18,51 +15,39 @@ Inv-loop recipe scan held₀ spare₀ steps end h₀ i₀ held spare h i = (leng
 abbrev μ-loop : tie.MeasureT-loop
 μ-loop recipe scan held₀ spare₀ steps end h₀ i₀ held spare h i = steps - i
 
--- src/lib.rt:350:15
 add-end : tie.Need-add-end Inv-loop μ-loop
 add-end c = search needs
 
--- src/lib.rt:353:5
 loop-holds : tie.Need-loop-holds Inv-loop μ-loop
 loop-holds c = (refl, refl, going-start _ _ _ (c .before .before .before .before .pre .0 .fine))
 
--- src/lib.rt:354:13
 step-at-requires : tie.Need-step-at-requires Inv-loop μ-loop
 step-at-requires c κs = search needs
 
--- src/lib.rt:355:27
 enum-known-decoded : tie.Need-enum-known-decoded Inv-loop μ-loop
 enum-known-decoded c = search needs
 
--- src/lib.rt:356:13
 enum-told : tie.Need-enum-told Inv-loop μ-loop
 enum-told c = search needs
 
--- src/lib.rt:356:13
 same-length : tie.Need-same-length Inv-loop μ-loop
 same-length c = c .before .before .before .before .loop .inv .0
 
--- src/lib.rt:356:13
 same-length-2 : tie.Need-same-length-2 Inv-loop μ-loop
 same-length-2 c = c .before .before .before .before .loop .inv .1
 
--- src/lib.rt:356:13
 returns : tie.Need-returns Inv-loop μ-loop
 returns c = going-good (c .before .before .before .before .before .before .before .before .before .pre .0 .some) (c .before .before .before .before .loop .inv .2) (omega arith) _ (sym (c .before .before .step-at .ensures) ∙ c .enum-told .given .1)
 
--- src/lib.rt:358:27
 sub-perform : tie.Need-sub-perform Inv-loop μ-loop
 sub-perform c = search needs
 
--- src/lib.rt:358:27
 part-perform-start : tie.Need-part-perform-start Inv-loop μ-loop
 part-perform-start c = search needs
 
--- src/lib.rt:358:27
 part-perform-end : tie.Need-part-perform-end Inv-loop μ-loop
 part-perform-end c = search needs
 
--- src/lib.rt:358:9
 perform-requires : tie.Need-perform-requires Inv-loop μ-loop
 perform-requires c κs =
     let p = c .before .before .before .before .before .before .before .before .before .before .before .before .pre in
@@ -72,15 +57,12 @@ perform-requires c κs =
     let ready = going-ready (p .0 .some) (at .2) (omega arith) _ (sym (c .before .before .before .before .before .step-at .ensures) ∙ c .before .before .before .decoded .given .1) in
     (record { some = omega arith; most = omega (arith, p .0 .most); deep = omega arith; wide = omega arith; few = at .2 .few }, p .0 .some, ready .0, ready .1)
 
--- src/lib.rt:359:9
 add-i : tie.Need-add-i Inv-loop μ-loop
 add-i c = search needs
 
--- src/lib.rt:353:5
 loop-less : tie.Need-loop-less Inv-loop μ-loop
 loop-less c = search needs
 
--- src/lib.rt:353:5
 loop-again : tie.Need-loop-again Inv-loop μ-loop
 loop-again c =
     let at = c .before .before .before .before .before .before .before .before .before .before .before .before .loop .inv in
@@ -93,15 +75,12 @@ loop-again c =
       going-on (c .before .before .before .before .before .before .before .before .before .before .before .before .before .before .before .before .before .pre .0 .some) (at .2) (omega arith) _ _ _ (sym (c .before .before .before .before .before .before .before .before .before .before .step-at .ensures) ∙ c .before .before .before .before .before .before .before .before .decoded .given .1) (c .before .before .before .before .perform .ensures .1),
     )
 
--- src/lib.rt:345:1
 same-length-3 : tie.Need-same-length-3 Inv-loop μ-loop
 same-length-3 c = c .before .loop .inv .0
 
--- src/lib.rt:345:1
 same-length-4 : tie.Need-same-length-4 Inv-loop μ-loop
 same-length-4 c = c .before .loop .inv .1
 
--- src/lib.rt:345:1
 returns-2 : tie.Need-returns-2 Inv-loop μ-loop
 returns-2 c = going-end (omega arith) (c .before .loop .inv .2)
 
