@@ -36,9 +36,8 @@
  * A pointer is aligned, good for the length that follows it, and never null, not even where that
  * length is 0. What a call writes overlaps nothing else that it is given. An accepted call fills
  * exactly its answer from the slice's start; elements after it keep their values. No call keeps a
- * pointer, allocates or uses anything but its arguments, so calls may run at the same time. For
- * threads with a small stack: sf_compile and sf_run_recipe take up to 0.7 MB of it, the others less
- * than 0.1 MB.
+ * pointer, allocates or uses anything but its arguments, so calls may run at the same time; none
+ * takes more than 128 KiB of the stack.
  */
 #ifndef STACKFILTER_H
 #define STACKFILTER_H

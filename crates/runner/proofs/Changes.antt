@@ -2,28 +2,28 @@
 -- least offset is 0: its inside then stays in the window where the step itself does.
 -- Assumes nothing.
 use mathlib.Core.Path.{_≡_, refl, sym, ap, ap₂, _∙_, subst}
-use mathlib.Core.Bool.{Bool, true, false, cond}
+use mathlib.Core.Bool.{Bool, true, false}
 use mathlib.Core.List.{List, [], _∷_, map, map-map, List·Memᴰ, List·Memᴰ·head, List·Memᴰ·tail}
-use mathlib.Core.Logic.{_⊎_, inl, inr}
 use Prim.Native.Nat.{ℕ, zero, suc, _+_, _-_, _/_, _≤_, _<_}
 use native.Mathlib.Omega.{arith}
 use lib.ListN.{length, getD}
-use lib.IntN.{ℤ, pos, negsuc, negℤ, subℕ, _+ℤ_, +ℤ-assoc, +ℤ-comm, +ℤ-idl, negℤ-+ℤ}
+use lib.IntN.{ℤ, pos, negℤ, subℕ, _+ℤ_, +ℤ-assoc, +ℤ-comm, +ℤ-idl, negℤ-+ℤ}
 use lib.Signed.{leZ}
-use Rattle.theory.specs.Lists.{tab, put, keep, from}
+use Rattle.theory.specs.Lists.{put, keep, from}
 use Rattle.theory.specs.Sets.{has, places}
 use Rattle.theory.specs.Orders.{counts, ints}
-use Rattle.theory.specs.Ranks.{Pick, lowest, highest, kth, pick}
+use Rattle.theory.specs.Ranks.{Pick, lowest, highest, kth}
 use Rattle.theory.specs.Signals.{row, nine, endlessScan}
 use Rattle.theory.specs.Plans.{Plan, near, meaning, leftmost, rightmost, lo, hi}
 use Rattle.theory.specs.Recipes.{Change, erode, dilate, opening, closing, rank, median, offsets, size, eroded, dilated, on-one, plans}
 use Rattle.theory.proofs.Sets.{places-at, places-some}
 use Rattle.theory.proofs.Lists.{from-at, keep-at, tab-cong}
 use Rattle.theory.proofs.Orders.{leq-refl, least-le, le-greatest, least-from, greatest-from}
-use Rattle.theory.proofs.Ints.{up, leZ-add}
+use Rattle.theory.proofs.Ints.{leZ-add}
 use Rattle.theory.proofs.Truth.{Fits}
 use Rattle.theory.proofs.Steps.{moved-opening, moved-closing}
-use Rattle.runner.specs.Rows.{shown, picked, shiftOf, shiftsOf, extreme, stretched, rankedRow, low, changed, Proper}
+use Rattle.runner.specs.Rows.{shown, picked, shiftOf, shiftsOf, stretched, low, changed, Proper}
+use Rattle.runner.specs.Stacks.{changeOf}
 use Rattle.theory.proofs.Differences.{sub-same, sub-add, sub-neg, sub-le}
 use Rattle.runner.proofs.Rows.{shown-near}
 
@@ -98,16 +98,21 @@ placed B p q = go (places 9 B) refl (places-some 9 B p q .1)
 -- ---- the offsets, as shifts
 
 module _ (i : ℕ) (l : i < 9) where
-  plain : subℕ (4 + i) 8 ≡ subℕ i 4
-  plain = sub-same (4 + i) 8 i 4 (omega arith)
+  pub small : (m : Bool) (a : ℕ) → a < 9 → shiftOf m a i ≤ 16
+  unfolding shiftOf
+  small true a h = omega arith
+  small false a h = omega arith
 
-  mirrored : subℕ (12 - i) 8 ≡ negℤ (subℕ i 4)
-  mirrored = sub-same (12 - i) 8 4 i (omega arith) ∙ sym (sub-neg i 4)
+  plain : subℕ (8 + i - 4) 8 ≡ subℕ i 4
+  plain = sub-same (8 + i - 4) 8 i 4 (omega arith)
+
+  mirrored : subℕ (8 + 4 - i) 8 ≡ negℤ (subℕ i 4)
+  mirrored = sub-same (8 + 4 - i) 8 4 i (omega arith) ∙ sym (sub-neg i 4)
 
   module _ (a : ℕ) (h : a < 9) where
     -- moved by 4 - a
-    plain-moved : subℕ (8 - a + i) 8 ≡ subℕ i 4 +ℤ subℕ 4 a
-    plain-moved = sub-same (8 - a + i) 8 (i + 4) (4 + a) (omega arith) ∙ sym (sub-add i 4 4 a)
+    plain-moved : subℕ (8 + i - a) 8 ≡ subℕ i 4 +ℤ subℕ 4 a
+    plain-moved = sub-same (8 + i - a) 8 (i + 4) (4 + a) (omega arith) ∙ sym (sub-add i 4 4 a)
 
     mirrored-moved : subℕ (8 + a - i) 8 ≡ negℤ (subℕ i 4 +ℤ subℕ 4 a)
     mirrored-moved = sub-same (8 + a - i) 8 (4 + a) (i + 4) (omega arith) ∙ sym (ap negℤ (sub-add i 4 4 a) ∙ sub-neg (i + 4) (4 + a))
@@ -115,39 +120,40 @@ module _ (i : ℕ) (l : i < 9) where
 -- ---- each step
 
 module _ (s : List ℕ) (some : 0 < length s) (B : ℕ) (pl : Placed B) where
+  low-small : low B < 9
+  low-small = rw (pl .is-low) (pl .each (pl .one) (List·Memᴰ·head refl) .0)
+
   -- a step by the set, at shifts that stand for the offsets q i
-  set-row : (p : Pick) (m : Bool) (base : ℕ) (q : ℕ → ℤ) (e : Plan) → Fits nine e
-      → ((i : ℕ) → i < 9 → (shiftOf m base i ≤ 16) × (subℕ (shiftOf m base i) 8 ≡ q i))
-      → picked p (shiftsOf m base B) (shown e s) ≡ shown (near p (map q (places 9 B)) e) s
+  set-row : (p : Pick) (m : Bool) (a : ℕ) → a < 9 → (q : ℕ → ℤ) (e : Plan) → Fits nine e
+      → ((i : ℕ) → i < 9 → subℕ (shiftOf m a i) 8 ≡ q i)
+      → picked p (shiftsOf m a B) (shown e s) ≡ shown (near p (map q (places 9 B)) e) s
   unfolding shiftsOf
-  set-row p m base q e ok h = rw (pl .are) (shown-by e ok s some p (shiftOf m base) q (pl .one) (pl .others) (λ i k. h i (pl .each i k .0)))
+  set-row p m a k q e ok h =
+      rw (pl .are) (shown-by e ok s some p (shiftOf m a) q (pl .one) (pl .others) (λ i n. (small i (pl .each i n .0) m a k, h i (pl .each i n .0))))
 
   plain-row : (p : Pick) (e : Plan) → Fits nine e → picked p (shiftsOf false 4 B) (shown e s) ≡ shown (near p (offsets nine B) e) s
   unfolding shiftOf offsets nine row
-  plain-row p e ok = set-row p false 4 (λ i. subℕ i 4) e ok (λ i l. (omega arith, plain i l))
+  plain-row p e ok = set-row p false 4 (omega arith) (λ i. subℕ i 4) e ok plain
 
-  mirrored-row : (p : Pick) (e : Plan) → Fits nine e → picked p (shiftsOf true 12 B) (shown e s) ≡ shown (near p (map negℤ (offsets nine B)) e) s
+  mirrored-row : (p : Pick) (e : Plan) → Fits nine e → picked p (shiftsOf true 4 B) (shown e s) ≡ shown (near p (map negℤ (offsets nine B)) e) s
   unfolding shiftOf offsets nine row
-  mirrored-row p e ok = rw (map-map negℤ (λ i. subℕ i 4) (places 9 B)) (set-row p true 12 (λ i. negℤ (subℕ i 4)) e ok (λ i l. (omega arith, mirrored i l)))
+  mirrored-row p e ok = rw (map-map negℤ (λ i. subℕ i 4) (places 9 B)) (set-row p true 4 (omega arith) (λ i. negℤ (subℕ i 4)) e ok mirrored)
 
   -- by the set moved so that its least offset is 0
   away : ℤ
   away = subℕ 4 (low B)
 
-  low-small : low B < 9
-  low-small = rw (pl .is-low) (pl .each (pl .one) (List·Memᴰ·head refl) .0)
-
-  plain-away : (p : Pick) (e : Plan) → Fits nine e → picked p (shiftsOf false (8 - low B) B) (shown e s) ≡ shown (near p (map (λ z. z +ℤ away) (offsets nine B)) e) s
+  plain-away : (p : Pick) (e : Plan) → Fits nine e → picked p (shiftsOf false (low B) B) (shown e s) ≡ shown (near p (map (λ z. z +ℤ away) (offsets nine B)) e) s
   unfolding shiftOf offsets nine row away
   plain-away p e ok =
       rw (map-map (λ z. z +ℤ away) (λ i. subℕ i 4) (places 9 B))
-      (set-row p false (8 - low B) (λ i. subℕ i 4 +ℤ away) e ok (λ i l. (omega (arith, low-small), plain-moved i l (low B) low-small)))
+      (set-row p false (low B) low-small (λ i. subℕ i 4 +ℤ away) e ok (λ i l. plain-moved i l (low B) low-small))
 
-  mirrored-away : (p : Pick) (e : Plan) → Fits nine e → picked p (shiftsOf true (8 + low B) B) (shown e s) ≡ shown (near p (map (λ z. negℤ (z +ℤ away)) (offsets nine B)) e) s
+  mirrored-away : (p : Pick) (e : Plan) → Fits nine e → picked p (shiftsOf true (low B) B) (shown e s) ≡ shown (near p (map (λ z. negℤ (z +ℤ away)) (offsets nine B)) e) s
   unfolding shiftOf offsets nine row away
   mirrored-away p e ok =
       rw (map-map (λ z. negℤ (z +ℤ away)) (λ i. subℕ i 4) (places 9 B))
-      (set-row p true (8 + low B) (λ i. negℤ (subℕ i 4 +ℤ away)) e ok (λ i l. (omega (arith, low-small), mirrored-moved i l (low B) low-small)))
+      (set-row p true (low B) low-small (λ i. negℤ (subℕ i 4 +ℤ away)) e ok (λ i l. mirrored-moved i l (low B) low-small))
 
   -- ---- the inside of an opening or a closing
 
@@ -243,24 +249,24 @@ module _ (s : List ℕ) (some : 0 < length s) (B : ℕ) (pl : Placed B) where
         moved-closing counts e (endlessScan s) away (subℕ (pl .one) 4) (map (λ i. subℕ i 4) (pl .others)) (subℕ j 4)
         ∙ ap (λ (bs : List ℤ). meaning counts (near lowest bs (near highest (map negℤ (map (λ i. subℕ i 4) (pl .one ∷ pl .others))) e)) (endlessScan s) (subℕ j 4)) (map-id (map (λ i. subℕ i 4) (pl .one ∷ pl .others)))))
 
-    opened-row : Fits nine (opened e) → stretched true (8 + low B) B (stretched false (8 - low B) B (shown e s)) ≡ shown (opened e) s
+    opened-row : Fits nine (opened e) → stretched true (low B) B (stretched false (low B) B (shown e s)) ≡ shown (opened e) s
     unfolding stretched
     opened-row whole =
-        ap (λ (l : List ℕ). picked highest (shiftsOf true (8 + low B) B) l) (plain-away lowest e ok)
+        ap (λ (l : List ℕ). picked highest (shiftsOf true (low B) B) l) (plain-away lowest e ok)
         ∙ mirrored-away highest (first-of-opened e) (opened-fits whole)
         ∙ shown-opened
 
-    closed-row : Fits nine (closed e) → stretched false (8 - low B) B (stretched true (8 + low B) B (shown e s)) ≡ shown (closed e) s
+    closed-row : Fits nine (closed e) → stretched false (low B) B (stretched true (low B) B (shown e s)) ≡ shown (closed e) s
     unfolding stretched
     closed-row whole =
-        ap (λ (l : List ℕ). picked lowest (shiftsOf false (8 - low B) B) l) (mirrored-away highest e ok)
+        ap (λ (l : List ℕ). picked lowest (shiftsOf false (low B) B) l) (mirrored-away highest e ok)
         ∙ plain-away lowest (first-of-closed e) (closed-fits whole)
         ∙ shown-closed
 
 -- what a step makes of a plan's row is the row of the plan that it leaves
-pub changed-row : (s : List ℕ) → 0 < length s → (c : Change) → Proper c → (e : Plan) → Fits nine e → Fits nine (on-one nine plans c e)
-    → changed c (shown e s) ≡ shown (on-one nine plans c e) s
-unfolding on-one eroded dilated plans stretched rankedRow
+pub changed-row : (s : List ℕ) → 0 < length s → (c : Change) → Proper (changeOf c) → (e : Plan) → Fits nine e → Fits nine (on-one nine plans c e)
+    → changed (changeOf c) (shown e s) ≡ shown (on-one nine plans c e) s
+unfolding on-one eroded dilated plans stretched
 changed-row s some (erode B) p e ok fit = plain-row s some B (placed B (p .0) (p .1)) lowest e ok
 changed-row s some (dilate B) p e ok fit = mirrored-row s some B (placed B (p .0) (p .1)) highest e ok
 changed-row s some (opening B) p e ok fit = opened-row s some B (placed B (p .0) (p .1)) e ok fit

@@ -7,5 +7,6 @@ pub mod Sweeps
 pub mod Columns
 pub mod Stacks
 pub mod Walks
+pub mod Pieces
 pub mod Fine
 pub mod Decided

@@ -1,21 +1,21 @@
 -- Laws of rows: a row that is widened by its end values shows the plan beyond its ends too, so a pick around each place of a row is the
 -- row of the pick around the plan.
 -- Assumes nothing.
-use mathlib.Core.Path.{_≡_, refl, sym, ap, ap₂, _∙_, subst}
-use mathlib.Core.List.{List, [], _∷_, map, List·Memᴰ}
+use mathlib.Core.Path.{_≡_, sym, ap, ap₂, _∙_, subst}
+use mathlib.Core.List.{List, _∷_, map, List·Memᴰ}
 use mathlib.Core.Logic.{_⊎_, inl, inr}
-use Prim.Native.Nat.{ℕ, zero, suc, _+_, _-_, _≤_, _<_, min}
+use Prim.Native.Nat.{ℕ, _+_, _-_, _≤_, _<_, min}
 use native.Mathlib.Omega.{arith}
 use lib.ListN.{length, getD}
-use lib.IntN.{ℤ, pos, negsuc, negℤ, subℕ, _+ℤ_, +ℤ-idl, +ℤ-idr}
+use lib.IntN.{ℤ, pos, subℕ, _+ℤ_, +ℤ-idl, +ℤ-idr}
 use Rattle.theory.specs.Lists.{tab}
-use Rattle.theory.specs.Orders.{counts, larger, smaller, ints}
-use Rattle.theory.specs.Ranks.{Pick, pick}
+use Rattle.theory.specs.Orders.{counts, larger, smaller}
+use Rattle.theory.specs.Ranks.{Pick}
 use Rattle.theory.specs.Signals.{row, nine, endlessScan}
-use Rattle.theory.specs.Plans.{Plan, scan, near, upper, lower, meaning, lo, hi}
+use Rattle.theory.specs.Plans.{Plan, scan, near, upper, lower, meaning}
 use Rattle.theory.proofs.Lists.{length-tab, getD-tab, tab-cong}
 use Rattle.theory.proofs.Ranks.{pick-agree}
-use Rattle.theory.proofs.Plans.{Inside, translate, local, wider}
+use Rattle.theory.proofs.Plans.{translate, local, wider}
 use Rattle.theory.proofs.Signals.{nine-fair, held-at}
 use Rattle.theory.proofs.Differences.{side, sub-same, sub-add}
 use Rattle.theory.proofs.Truth.{Fits}
@@ -35,27 +35,27 @@ pub shown-scan : (s : List ℕ) → shown scan s ≡ widened 4 s
 unfolding shown widened meaning endlessScan
 shown-scan s = tab-cong (length s + 8) _ _ (λ j l. held-at 0 s j 4)
 
--- the value 12 to the left of i
+-- the value at the position i - 12
 abbrev at : Plan → List ℕ → ℕ → ℕ
 at e s i = meaning counts e (endlessScan s) (subℕ i 12)
 
--- two places around which the scan shows the same
-same-around : (e : Plan) → Fits nine e → (s : List ℕ) (i j : ℕ) → ((k : ℕ) → k ≤ 8 → min (i + k - 16) (length s - 1) ≡ min (j + k - 16) (length s - 1)) → at e s i ≡ at e s j
-unfolding nine row endlessScan
-same-around e ok s i j h =
-    ap (meaning counts e (endlessScan s)) (sym (+ℤ-idr (subℕ i 12)))
-    ∙ translate counts e (endlessScan s) (subℕ i 12) (pos 0)
+-- a plan that fits the window has one value at two places around which two signals are the same
+pub same-around : (e : Plan) → Fits nine e → (g g′ : ℤ → ℕ) (y z : ℤ) → ((k : ℕ) → k ≤ 8 → g (y +ℤ subℕ k 4) ≡ g′ (z +ℤ subℕ k 4)) → meaning counts e g y ≡ meaning counts e g′ z
+unfolding nine row
+same-around e ok g g′ y z h =
+    ap (meaning counts e g) (sym (+ℤ-idr y))
+    ∙ translate counts e g y (pos 0)
     ∙ local counts e _ _ (pos 0) (λ d r. rw (+ℤ-idl d) (agree d (nine-fair .cover d (wider (ok .left-ok) (ok .right-ok) r))))
-    ∙ sym (translate counts e (endlessScan s) (subℕ j 12) (pos 0))
-    ∙ ap (meaning counts e (endlessScan s)) (+ℤ-idr (subℕ j 12))
+    ∙ sym (translate counts e g′ z (pos 0))
+    ∙ ap (meaning counts e g′) (+ℤ-idr z)
   where
-    seen : (i k : ℕ) → endlessScan s (subℕ i 12 +ℤ subℕ k 4) ≡ getD s (min (i + k - 16) (length s - 1)) 0
-    seen i k = ap (endlessScan s) (sub-add i 12 k 4) ∙ held-at 0 s (i + k) 16
+    agree : (d : ℤ) → (k : ℕ) × (k < 9) × (subℕ k 4 ≡ d) → g (y +ℤ d) ≡ g′ (z +ℤ d)
+    agree d c = subst (λ (w : ℤ). g (y +ℤ w) ≡ g′ (z +ℤ w)) (c .2) (h (c .0) (omega (arith, c .1)))
 
-    agree : (d : ℤ) → (k : ℕ) × (k < 9) × (subℕ k 4 ≡ d) → endlessScan s (subℕ i 12 +ℤ d) ≡ endlessScan s (subℕ j 12 +ℤ d)
-    agree d c =
-        subst (λ (z : ℤ). endlessScan s (subℕ i 12 +ℤ z) ≡ endlessScan s (subℕ j 12 +ℤ z)) (c .2)
-        (seen i (c .0) ∙ ap (λ (n : ℕ). getD s n 0) (h (c .0) (omega (arith, c .1))) ∙ sym (seen j (c .0)))
+-- what stands around a place of a scan
+pub seen-around : (s : List ℕ) (i x k : ℕ) → endlessScan s (subℕ i x +ℤ subℕ k 4) ≡ getD s (min (i + k - (x + 4)) (length s - 1)) 0
+unfolding endlessScan
+seen-around s i x k = ap (endlessScan s) (sub-add i x k 4) ∙ held-at 0 s (i + k) (x + 4)
 
 -- the widened row shows the plan at every place
 pub held-row : (e : Plan) → Fits nine e → (s : List ℕ) → 0 < length s → (i : ℕ) → at e s i ≡ getD (shown e s) (min (i - 8) (length s + 7)) 0
@@ -65,7 +65,8 @@ held-row e ok s some i = go (side i 8) (side i (length s + 16))
     by : (j : ℕ) → j ≤ length s + 7 → min (i - 8) (length s + 7) ≡ j
         → ((k : ℕ) → k ≤ 8 → min (i + k - 16) (length s - 1) ≡ min (j + 8 + k - 16) (length s - 1)) → at e s i ≡ getD (shown e s) (min (i - 8) (length s + 7)) 0
     by j l q h =
-        same-around e ok s i (j + 8) h
+        same-around e ok (endlessScan s) (endlessScan s) (subℕ i 12) (subℕ (j + 8) 12)
+        (λ k m. seen-around s i 12 k ∙ ap (λ (n : ℕ). getD s n 0) (h k m) ∙ sym (seen-around s (j + 8) 12 k))
         ∙ ap (meaning counts e (endlessScan s)) (sub-same (j + 8) 12 j 4 (omega arith))
         ∙ sym (shown-at e s j (omega arith))
         ∙ ap (λ (n : ℕ). getD (shown e s) n 0) (sym q)

@@ -2,25 +2,25 @@
 -- Assumes nothing.
 use mathlib.Core.Path.{_≡_, refl, sym, ap, ap₂, _∙_}
 use mathlib.Core.Bool.{Bool, true, false}
-use mathlib.Core.List.{List, [], _∷_}
+use mathlib.Core.List.{List, _∷_}
 use mathlib.Core.Logic.{_⊎_, inl, inr}
 use Prim.Native.Nat.{ℕ, zero, suc, _+_, _-_, _*_, _≤_, _<_, min}
 use native.Mathlib.Omega.{arith}
 use lib.Dec.{leb}
 use lib.ListN.{length, getD, drop}
 use lib.Seq.{ext-getD, getD-take, getD-drop}
-use borrow.Author.Tests.{leb-true, leb-false, le-leb, lt-leb}
+use borrow.Author.Tests.{leb-true, leb-false}
 use borrow.Rule.Slice.PartMut.{midOf, putMid}
 use Rattle.theory.specs.Lists.{tab}
 use Rattle.theory.specs.Orders.{counts, larger, smaller}
-use Rattle.theory.specs.Recipes.{Step}
+use Rattle.runner.specs.declared.Change.{Change}
 use Rattle.theory.proofs.Tests.{which}
 use Rattle.theory.proofs.Lists.{length-tab, getD-tab, tab-cong}
-use Rattle.runner.specs.Rows.{widened, part, chosen, merged, paired}
-use Rattle.runner.specs.Stacks.{rowsIn, onLast, joined, replaced}
+use Rattle.runner.specs.Rows.{widened, changed, part, chosen, merged, paired}
+use Rattle.runner.specs.Stacks.{rowsIn, replaced, joined}
 use Rattle.runner.proofs.Rows.{widened-at}
 use Rattle.runner.proofs.Parts.{mid-length}
-use Rattle.runner.proofs.Columns.{row-fits, row-here, row-under}
+use Rattle.runner.proofs.Columns.{row-here, row-under}
 
 -- a part that is lent, by its elements
 pub mid-part : (a n : ℕ) (l : List ℕ) → a + n ≤ length l → midOf a n l ≡ part n a l
@@ -80,8 +80,8 @@ rows-pushed m h k l new room ek full =
 
 -- ---- the last row replaced
 
-pub rows-replaced : (c : Step) (m h a k : ℕ) (l new : List ℕ) → 0 < h → h * m ≤ length l → a ≡ h * m - m → k ≡ h * m - a → length new ≡ m
-    → new ≡ onLast c (midOf a k l) → rowsIn m h (putMid a k l new) ≡ replaced c (rowsIn m h l)
+pub rows-replaced : (c : Change) (m h a k : ℕ) (l new : List ℕ) → 0 < h → h * m ≤ length l → a ≡ h * m - m → k ≡ h * m - a → length new ≡ m
+    → new ≡ changed c (midOf a k l) → rowsIn m h (putMid a k l new) ≡ replaced c (rowsIn m h l)
 unfolding rowsIn
 rows-replaced c m zero a k l new some room ea ek full e = absurd (omega arith)
 rows-replaced c m (suc h) a k l new some room ea ek full e =
@@ -90,7 +90,7 @@ rows-replaced c m (suc h) a k l new some room ea ek full e =
     let fits : h * m + m ≤ length l = omega arith in
     rw (ha, hk)
     (rows-written m h (suc h) l new (omega arith) room full
-    ∙ ap {B = List (List ℕ)} (λ x. x ∷ rowsIn m h l) (e ∙ ap₂ (λ (q i : ℕ). onLast c (midOf q i l)) ha hk ∙ ap (onLast c) (mid-part (h * m) m l fits)))
+    ∙ ap {B = List (List ℕ)} (λ x. x ∷ rowsIn m h l) (e ∙ ap₂ (λ (q i : ℕ). changed c (midOf q i l)) ha hk ∙ ap (changed c) (mid-part (h * m) m l fits)))
 
 -- ---- the last two become one
 

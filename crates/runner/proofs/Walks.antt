@@ -1,35 +1,32 @@
 -- What an accepted recipe's steps make of the rows held: at every step they are the rows of the plans held.
 -- Assumes nothing.
 use mathlib.Core.Path.{_≡_, refl, sym, ap, ap₂, _∙_, subst}
-use mathlib.Core.Bool.{Bool, true, false, cond}
+use mathlib.Core.Bool.{true, false}
 use mathlib.Core.List.{List, [], _∷_, map}
 use mathlib.Core.Logic.{_⊎_, inl, inr}
-use mathlib.Core.Option.{Option, none, some}
-use Prim.Native.Nat.{ℕ, zero, suc, _+_, _-_, _*_, _/_, _≤_, _<_}
+use mathlib.Core.Option.{none, some}
+use Prim.Native.Nat.{ℕ, _+_, _-_, _*_, _/_, _≤_, _<_}
 use native.Mathlib.Omega.{arith}
 use lib.Dec.{ltb}
 use lib.ListN.{length, getD, length-map}
-use lib.IntN.{pos, subℕ}
 use borrow.Author.Tests.{ltb-true}
 use Rattle.theory.specs.Lists.{tab}
 use Rattle.theory.specs.Orders.{counts, larger, smaller}
-use Rattle.theory.specs.Signals.{nine, endlessScan}
-use Rattle.theory.specs.Plans.{Plan, scan, upper, lower, meaning}
+use Rattle.theory.specs.Signals.{nine}
+use Rattle.theory.specs.Plans.{Plan, scan, upper, lower}
 use Rattle.theory.specs.Recipes as theory
 use Rattle.theory.specs.Recipes.{signal, one, join, meet, act, top, two, push, on-one, plans}
 use Rattle.theory.proofs.Tests.{which}
-use Rattle.theory.proofs.Lists.{tab-cong}
-use Rattle.theory.proofs.Truth.{Fits}
 use Rattle.recipes.specs.declared.Step.{Step}
 use Rattle.recipes.specs.declared.Step.the-variants.{Signal, Erode, Dilate, Open, Close, Rank, Median, Larger, Smaller}
 use Rattle.recipes.specs.declared.Decoded.the-variants.{Good, Bad}
 use Rattle.recipes.specs.Steps.{stepAt, meant, Sane}
-use Rattle.recipes.specs.Judge.{Verdict, accepted, topReach, judgedFrom, planOf, recipeChecked}
+use Rattle.recipes.specs.Judge.{accepted, topReach, judgedFrom, planOf, recipeChecked}
 use Rattle.refusals.specs.declared.Refusal.{Refusal}
 use Rattle.refusals.specs.declared.Checked.the-variants.{Fine}
 use Rattle.recipes.proofs.Accepted.{Advanced, accepted-turn, accepted-end, accepted-start, fine-accepted, AllFit, reach-fits, step-fits, step-most}
-use Rattle.runner.specs.Rows.{shown, widened, part, paired, chosen, changed, Proper}
-use Rattle.runner.specs.Stacks.{rowsIn, kindOf, stacked, Deep}
+use Rattle.runner.specs.Rows.{shown, widened, part, paired, chosen, Proper}
+use Rattle.runner.specs.Stacks.{changeOf, workOf, rowsIn, stacked, Ready}
 use Rattle.runner.proofs.Rows.{length-shown, shown-scan, shown-upper, shown-lower}
 use Rattle.runner.proofs.Changes.{changed-row}
 use Rattle.runner.proofs.Stacks.{length-rows}
@@ -37,7 +34,7 @@ use Rattle.runner.proofs.Stacks.{length-rows}
 -- a step of 1 to 6 has a proper set and rank
 abbrev Fair : theory.Step → Type 0
 Fair signal = Unit {0}
-Fair (one c) = Proper c
+Fair (one c) = Proper (changeOf c)
 Fair join = Unit {0}
 Fair meet = Unit {0}
 
@@ -48,7 +45,7 @@ sane-fair (Dilate b) h = (h .0, omega arith)
 sane-fair (Open b) h = (h .0, omega arith)
 sane-fair (Close b) h = (h .0, omega arith)
 sane-fair (Rank k b) h = (h .0, omega arith, h .2, h .3)
-sane-fair (Median b) h = (h .0, omega arith)
+sane-fair (Median b) h = (h .0, omega arith, omega arith, omega arith)
 sane-fair Larger h = tt
 sane-fair Smaller h = tt
 
@@ -59,21 +56,21 @@ never h = let z : _≡_ {A = ℕ} 0 1 = cc in absurd (omega arith)
 -- ---- one step
 
 -- as many are held as the step takes
-pub deep-enough : (c : theory.Step) (st after : List Plan) → act nine plans c st ≡ some after → Deep (kindOf c) (length st)
+ready-for : (c : theory.Step) (st after : List Plan) → Fair c → act nine plans c st ≡ some after → Ready (workOf c) (length st)
 unfolding act top two push
-deep-enough signal st after h = go (which (ltb (length st) 8))
+ready-for signal st after f h = go (which (ltb (length st) 8))
   where
     go : (ltb (length st) 8 ≡ true) ⊎ (ltb (length st) 8 ≡ false) → length st < 8
     go (inl e) = ltb-true (length st) 8 e
     go (inr e) = never (rw e at h)
-deep-enough (one c) [] after h = never h
-deep-enough (one c) (e ∷ st) after h = omega arith
-deep-enough join [] after h = never h
-deep-enough join (e ∷ []) after h = never h
-deep-enough join (e ∷ f ∷ st) after h = omega arith
-deep-enough meet [] after h = never h
-deep-enough meet (e ∷ []) after h = never h
-deep-enough meet (e ∷ f ∷ st) after h = omega arith
+ready-for (one c) [] after f h = never h
+ready-for (one c) (e ∷ st) after f h = (omega arith, f)
+ready-for join [] after f h = never h
+ready-for join (e ∷ []) after f h = never h
+ready-for join (e ∷ g ∷ st) after f h = omega arith
+ready-for meet [] after f h = never h
+ready-for meet (e ∷ []) after f h = never h
+ready-for meet (e ∷ g ∷ st) after f h = omega arith
 
 module _ (s : List ℕ) (some-samples : 0 < length s) where
   -- the rows of the plans held
@@ -89,7 +86,7 @@ module _ (s : List ℕ) (some-samples : 0 < length s) where
   paired-lower a b = ap (λ (n : ℕ). tab n (λ j. smaller counts (getD (shown a s) j 0) (getD (shown b s) j 0))) (length-shown b s) ∙ sym (shown-lower a b s)
 
   -- the step makes the rows of the plans that it leaves
-  stacked-plans : (c : theory.Step) (st after : List Plan) → Fair c → AllFit st → act nine plans c st ≡ some after → topReach after ≡ true → stacked c s (rows-of st) ≡ rows-of after
+  stacked-plans : (c : theory.Step) (st after : List Plan) → Fair c → AllFit st → act nine plans c st ≡ some after → topReach after ≡ true → stacked (workOf c) s (rows-of st) ≡ rows-of after
   unfolding act top two push plans topReach
   stacked-plans signal st after p ok h t = go (which (ltb (length st) 8))
     where
@@ -146,20 +143,20 @@ module _ {r s held : List ℕ} {n h i : ℕ} (some-samples : 0 < length s) (at :
   pub going-good : {P : Type 0} (x : Refusal) → stepAt r i ≡ Bad x → P
   going-good x e = let z : _≡_ {A = ℕ} 0 1 = cc (turn .decoded) in absurd (omega arith)
 
-  -- it can be performed, and its fields are allowed
-  pub going-ready : (step : Step) → stepAt r i ≡ Good step → Deep (kindOf (meant step)) h × Sane step
+  -- its work can be done
+  pub going-ready : (step : Step) → stepAt r i ≡ Good step → Ready (workOf (meant step)) h
   going-ready step e =
       let same : turn .step ≡ step = cc (turn .decoded, e) in
-      subst (λ (x : Step). Deep (kindOf (meant x)) h × Sane x) same
-      (subst (λ (k : ℕ). Deep (kindOf (meant (turn .step))) k) (at .counted) (deep-enough (meant (turn .step)) (at .plans-held) (turn .after) (turn .acted)), turn .sane)
+      subst (λ (x : Step). Ready (workOf (meant x)) h) same
+      (subst (λ (k : ℕ). Ready (workOf (meant (turn .step))) k) (at .counted) (ready-for (meant (turn .step)) (at .plans-held) (turn .after) (sane-fair (turn .step) (turn .sane)) (turn .acted)))
 
   pub going-on : (step : Step) (held′ : List ℕ) (h′ : ℕ) → stepAt r i ≡ Good step
-      → rowsIn (length s + 8) h′ held′ ≡ stacked (meant step) s (rowsIn (length s + 8) h held) → Going r s held′ n h′ (i + 1)
+      → rowsIn (length s + 8) h′ held′ ≡ stacked (workOf (meant step)) s (rowsIn (length s + 8) h held) → Going r s held′ n h′ (i + 1)
   going-on step held′ h′ e is =
       let same : step ≡ turn .step = cc (turn .decoded, e) in
       let rows : rowsIn (length s + 8) h′ held′ ≡ map (λ p. shown p s) (turn .after) =
       is
-      ∙ ap₂ (λ (x : Step) (st : List (List ℕ)). stacked (meant x) s st) same (at .rows)
+      ∙ ap₂ (λ (x : Step) (st : List (List ℕ)). stacked (workOf (meant x)) s st) same (at .rows)
       ∙ stacked-plans s some-samples (meant (turn .step)) (at .plans-held) (turn .after) (sane-fair (turn .step) (turn .sane)) (at .fit) (turn .acted) (turn .reached) in
       let counted : length (turn .after) ≡ h′ = sym (length-map (turn .after) (λ p. shown p s)) ∙ ap length (sym rows) ∙ length-rows (length s + 8) h′ held′ in
       record {

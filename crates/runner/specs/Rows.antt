@@ -1,18 +1,20 @@
 -- Rows: a signal of reach -4 to 4 is constant from 4 samples beyond either end of the scan on, so samples + 8 values hold it.
 -- Index j of a row stands for the position j - 4. What the steps make of rows.
 use mathlib.Core.Path.{_≡_}
-use mathlib.Core.Bool.{Bool, true, false, cond}
+use mathlib.Core.Bool.{Bool, true, false, not, cond}
 use mathlib.Core.List.{List, map}
-use Prim.Native.Nat.{ℕ, suc, _+_, _-_, _*_, _/_, _≤_, _<_, min}
+use Prim.Native.Nat.{ℕ, suc, _+_, _-_, _*_, _≤_, _<_, min}
 use lib.ListN.{length, getD, take}
 use lib.IntN.{subℕ}
-use Rattle.theory.specs.Lists.{tab, first}
-use Rattle.theory.specs.Sets.{has, places}
+use Rattle.theory.specs.Lists.{tab}
+use Rattle.theory.specs.Sets.{places}
 use Rattle.theory.specs.Orders.{counts, larger, smaller}
 use Rattle.theory.specs.Ranks.{Pick, lowest, highest, kth, insert, falling, pick}
 use Rattle.theory.specs.Signals.{nine, endlessScan}
 use Rattle.theory.specs.Plans.{Plan, meaning}
-use Rattle.theory.specs.Recipes.{Change, erode, dilate, opening, closing, rank, median, size}
+use Rattle.theory.specs.Recipes.{size}
+use Rattle.runner.specs.declared.Change.{Change}
+use Rattle.runner.specs.declared.Change.the-variants.{Stretch, Double, Select}
 
 -- the row of a plan on a scan
 unfoldable pub shown : Plan → List ℕ → List ℕ
@@ -37,53 +39,38 @@ pub record Reaching (n : ℕ) (room shifts : List ℕ) (count : ℕ) : Type 0 wh
 unfoldable pub picked : Pick → List ℕ → List ℕ → List ℕ
 picked p cs l = around p cs (length l) (widened 8 l)
 
--- ---- what a step makes of the last row
+-- ---- what a step makes of a row
 
--- the shift at which a set's position i is read: base + i, or mirrored, base - i
+-- the shift at which a set's position i is read, where the position centre stands for offset 0: i further on, or mirrored, i further back
 unfoldable pub shiftOf : Bool → ℕ → ℕ → ℕ
-shiftOf mirrored base i = cond mirrored (base - i) (base + i)
-
--- from which base every shift is one of 0 to 16
-abbrev pub Based : Bool → ℕ → Type 0
-Based false base = base ≤ 8
-Based true base = (8 ≤ base) × (base ≤ 16)
+shiftOf mirrored centre i = cond mirrored (8 + centre - i) (8 + i - centre)
 
 unfoldable pub shiftsOf : Bool → ℕ → ℕ → List ℕ
-shiftsOf mirrored base B = map (shiftOf mirrored base) (places 9 B)
+shiftsOf mirrored centre B = map (shiftOf mirrored centre) (places 9 B)
 
 abbrev pub extreme : Bool → Pick
 extreme false = lowest
 extreme true = highest
 
--- the smallest over the set, or the largest over the mirrored set; position i of the set is read at base and i together
+-- the smallest over the set, or the largest over the mirrored set
 unfoldable pub stretched : Bool → ℕ → ℕ → List ℕ → List ℕ
-stretched high base B l = picked (extreme high) (shiftsOf high base B) l
-
--- the k-th largest over the set
-unfoldable pub rankedRow : ℕ → ℕ → List ℕ → List ℕ
-rankedRow k B l = picked (kth k) (shiftsOf false 4 B) l
+stretched high centre B l = picked (extreme high) (shiftsOf high centre B) l
 
 -- the least position of a set
 unfoldable pub low : ℕ → ℕ
 low B = getD (places 9 B) 0 0
 
--- steps 1 to 6; an opening and a closing by the set moved so that its least offset is 0
+-- what a change makes of a row; the two parts of an opening or a closing go by the set moved so that its least offset is 0
 abbrev pub changed : Change → List ℕ → List ℕ
-changed (erode B) l = stretched false 4 B l
-changed (dilate B) l = stretched true 12 B l
-changed (opening B) l = stretched true (8 + low B) B (stretched false (8 - low B) B l)
-changed (closing B) l = stretched false (8 - low B) B (stretched true (8 + low B) B l)
-changed (rank k B) l = rankedRow k B l
-changed (median B) l = rankedRow ((size nine B + 1) / 2) B l
+changed (Stretch B high) l = stretched high 4 B l
+changed (Double B high) l = stretched (not high) (low B) B (stretched high (low B) B l)
+changed (Select B k) l = picked (kth k) (shiftsOf false 4 B) l
 
 -- the set is one of offsets, with some, and the rank is one of 1 to its size
 abbrev pub Proper : Change → Type 0
-Proper (erode B) = (0 < B) × (B < 512)
-Proper (dilate B) = (0 < B) × (B < 512)
-Proper (opening B) = (0 < B) × (B < 512)
-Proper (closing B) = (0 < B) × (B < 512)
-Proper (rank k B) = (0 < B) × (B < 512) × (0 < k) × (k ≤ size nine B)
-Proper (median B) = (0 < B) × (B < 512)
+Proper (Stretch B high) = (0 < B) × (B < 512)
+Proper (Double B high) = (0 < B) × (B < 512)
+Proper (Select B k) = (0 < B) × (B < 512) × (0 < k) × (k ≤ size nine B)
 
 -- a row and a room for it widened by 8, and a set of offsets that has some
 pub record Roomy (top room : List ℕ) (B : ℕ) : Type 0 where

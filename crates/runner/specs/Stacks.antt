@@ -2,24 +2,45 @@
 use mathlib.Core.Path.{_≡_}
 use mathlib.Core.Bool.{Bool, true, false}
 use mathlib.Core.List.{List, [], _∷_}
-use Prim.Native.Nat.{ℕ, zero, suc, _+_, _*_, _≤_, _<_}
+use Prim.Native.Nat.{ℕ, zero, suc, _+_, _*_, _/_, _≤_, _<_}
 use lib.ListN.{length}
-use Rattle.theory.specs.Recipes.{Step, signal, one, join, meet}
-use Rattle.runner.specs.declared.Kind.{Kind}
-use Rattle.runner.specs.declared.Kind.the-variants.{Push, Change, Join}
-use Rattle.runner.specs.Rows.{widened, changed, part, paired}
+use Rattle.theory.specs.Signals.{nine}
+use Rattle.theory.specs.Recipes as theory
+use Rattle.theory.specs.Recipes.{erode, dilate, opening, closing, rank, median, signal, one, join, meet, size}
+use Rattle.runner.specs.declared.Change.{Change}
+use Rattle.runner.specs.declared.Change.the-variants.{Stretch, Double, Select}
+use Rattle.runner.specs.declared.Work.{Work}
+use Rattle.runner.specs.declared.Work.the-variants as work
+use Rattle.runner.specs.Rows.{widened, part, paired, changed, Proper}
+
+-- ---- the work of a step
+
+-- steps 1 to 6
+abbrev pub changeOf : theory.Change → Change
+changeOf (erode B) = Stretch B false
+changeOf (dilate B) = Stretch B true
+changeOf (opening B) = Double B false
+changeOf (closing B) = Double B true
+changeOf (rank k B) = Select B k
+changeOf (median B) = Select B ((size nine B + 1) / 2)
+
+abbrev pub workOf : theory.Step → Work
+workOf signal = work.Add
+workOf (one c) = work.Change (changeOf c)
+workOf join = work.Join true
+workOf meet = work.Join false
+
+-- ---- the rows held
 
 -- the h rows of m values from a list's start on, the last one first
 unfoldable pub rowsIn : ℕ → ℕ → List ℕ → List (List ℕ)
 rowsIn m zero l = []
 rowsIn m (suc h) l = part m (h * m) l ∷ rowsIn m h l
 
--- the last row changed by a step of 1 to 6; another step leaves it
-abbrev pub onLast : Step → List ℕ → List ℕ
-onLast signal l = l
-onLast (one c) l = changed c l
-onLast join l = l
-onLast meet l = l
+-- the last row replaced
+abbrev pub replaced : Change → List (List ℕ) → List (List ℕ)
+replaced c [] = []
+replaced c (a ∷ st) = changed c a ∷ st
 
 -- the last two rows replaced by one
 abbrev pub joined : Bool → List (List ℕ) → List (List ℕ)
@@ -27,37 +48,22 @@ joined high [] = []
 joined high (a ∷ []) = []
 joined high (a ∷ b ∷ st) = paired high b a ∷ st
 
--- the last row replaced
-abbrev pub replaced : Step → List (List ℕ) → List (List ℕ)
-replaced c [] = []
-replaced c (a ∷ st) = onLast c a ∷ st
+-- what a work makes of the rows held, on the scan s
+abbrev pub stacked : Work → List ℕ → List (List ℕ) → List (List ℕ)
+stacked work.Add s st = widened 4 s ∷ st
+stacked (work.Change c) s st = replaced c st
+stacked (work.Join high) s st = joined high st
 
--- what a step does to the rows held
-abbrev pub kindOf : Step → Kind
-kindOf signal = Push
-kindOf (one c) = Change
-kindOf join = Join true
-kindOf meet = Join false
-
--- what a step of a kind makes of the rows held, on the scan s
-abbrev pub stackedBy : Kind → Step → List ℕ → List (List ℕ) → List (List ℕ)
-stackedBy Push c s st = widened 4 s ∷ st
-stackedBy Change c s st = replaced c st
-stackedBy (Join high) c s st = joined high st
-
-abbrev pub stacked : Step → List ℕ → List (List ℕ) → List (List ℕ)
-stacked c s st = stackedBy (kindOf c) c s st
-
--- as many rows are held as a step of a kind takes, and no ninth is added
-abbrev pub Deep : Kind → ℕ → Type 0
-Deep Push h = h < 8
-Deep Change h = 0 < h
-Deep (Join high) h = 1 < h
+-- as many rows are held as a work takes, no ninth is added, and a change is a proper one
+abbrev pub Ready : Work → ℕ → Type 0
+Ready work.Add h = h < 8
+Ready (work.Change c) h = (0 < h) × Proper c
+Ready (work.Join high) h = 1 < h
 
 -- room for eight rows of m values, of which h are held, and for one row widened by 8
 pub record Holding (m : ℕ) (held room : List ℕ) (h : ℕ) : Type 0 where
   pub some : 0 < m
-  pub most : m ≤ 16392
+  pub most : m ≤ 2056
   pub deep : 8 * m ≤ length held
   pub wide : length room ≡ m + 16
   pub few : h ≤ 8

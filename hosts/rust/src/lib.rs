@@ -9,7 +9,7 @@
 //! Each call comes in two shapes: one that gives its answer, and one, named `.._into`, that fills a
 //! slice you lend from its start and keeps what stands after the answer. A refused call gives a
 //! [`Refusal`] and changes no slice. The numbers after "Refuses" are those of the refusals, in the
-//! order in which they are tested. Compiling or running a recipe takes up to 0.7 MB of the stack.
+//! order in which they are tested. No call takes more than 128 KiB of the stack.
 //!
 //! ```
 //! use stackfilter::{clean, compile, recipe, Step};

@@ -1,4 +1,4 @@
--- `runner::admit` meets its contract. Assumes nothing.
+-- `runner::admit` asks 1 to 5, 9, 10 in this order. Assumes nothing.
 use borrow.Author.Needs.{needs}
 use mathlib.Core.Path.{_∙_, ap₂}
 use Rattle.refusals.specs.Refusals.{orElse}

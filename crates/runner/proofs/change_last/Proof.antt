@@ -1,12 +1,11 @@
--- `runner::change_last` meets its contract. Assumes nothing.
+-- `runner::change_last` lends the last row alone, so the rows below stay. Assumes nothing.
 use borrow.Author.Needs.{needs}
 use native.Mathlib.Omega.{arith}
 use native.Mathlib.Nat.{mul-le-mul-right}
-use Prim.Native.Nat.{ℕ, _+_, _-_, _*_}
-use mathlib.Core.Path.{_≡_, refl, sym, ap, _∙_}
+use Prim.Native.Nat.{_-_, _*_}
+use mathlib.Core.Path.{_≡_, refl}
 use lib.ListN.{length}
 use Rattle.runner.proofs.Parts.{mid-length}
-use Rattle.recipes.specs.Steps.{meant}
 use Rattle.runner.proofs.Stacks.{rows-replaced}
 use Rattle.runner.proofs.change_last.Statement.{statement}
 use Rattle.runner.proofs.change_last.Tie as tie
@@ -25,28 +24,28 @@ sub-start c =
     let all = mul-le-mul-right (a .m) (c .before .before .pre .0 .few) in
     omega arith
 
-mul-change : tie.Need-mul-change
-mul-change c =
+mul-apply : tie.Need-mul-apply
+mul-apply c =
     let a = c .before .before .args in
     let low = mul-le-mul-right (a .m) (c .before .before .pre .1) in
     let all = mul-le-mul-right (a .m) (c .before .before .pre .0 .few) in
     omega arith
 
-sub-change : tie.Need-sub-change
-sub-change c = search needs
+sub-apply : tie.Need-sub-apply
+sub-apply c = search needs
 
-part-change-start : tie.Need-part-change-start
-part-change-start c = search needs
+part-apply-start : tie.Need-part-apply-start
+part-apply-start c = search needs
 
-part-change-end : tie.Need-part-change-end
-part-change-end c =
+part-apply-end : tie.Need-part-apply-end
+part-apply-end c =
     let a = c .before .before .args in
     let low = mul-le-mul-right (a .m) (c .before .before .pre .1) in
     let all = mul-le-mul-right (a .m) (c .before .before .pre .0 .few) in
     search needs
 
-change-requires : tie.Need-change-requires
-change-requires c κs =
+apply-requires : tie.Need-apply-requires
+apply-requires c κs =
     let a = c .before .before .before .before .args in
     let low = mul-le-mul-right (a .m) (c .before .before .before .before .pre .1) in
     let all = mul-le-mul-right (a .m) (c .before .before .before .before .pre .0 .few) in
@@ -67,8 +66,8 @@ returns c =
     let all = mul-le-mul-right (a .m) (c .before .before .before .before .before .before .before .before .before .pre .0 .few) in
     let n = a .h * a .m in
     let sized = mid-length (n - a .m) (n - (n - a .m)) (a .held .now) (omega arith) in
-    let full : length (c .before .before .before .before .change .last .0) ≡ a .m = omega arith in
-    (c .before .before .before .before .before .before .before .before .before .pre .0 .few, rows-replaced (meant (a .step)) (a .m) (a .h) (n - a .m) (n - (n - a .m)) (a .held .now) (c .before .before .before .before .change .last .0) (c .before .before .before .before .before .before .before .before .before .pre .1) (omega arith) refl refl full (c .before .before .before .before .change .ensures))
+    let full : length (c .before .before .before .before .apply .last .0) ≡ a .m = omega arith in
+    (c .before .before .before .before .before .before .before .before .before .pre .0 .few, rows-replaced (a .by) (a .m) (a .h) (n - a .m) (n - (n - a .m)) (a .held .now) (c .before .before .before .before .apply .last .0) (c .before .before .before .before .before .before .before .before .before .pre .1) (omega arith) refl refl full (c .before .before .before .before .apply .ensures))
 
 pub change-last-spec : {M : Type 1} → statement M
 change-last-spec =
@@ -76,11 +75,11 @@ change-last-spec =
     (tie.spec
     mul-end
     sub-start
-    mul-change
-    sub-change
-    part-change-start
-    part-change-end
-    change-requires
+    mul-apply
+    sub-apply
+    part-apply-start
+    part-apply-end
+    apply-requires
     same-length
     same-length-2
     returns)

@@ -1,4 +1,4 @@
--- `runner::choose` meets its contract. Assumes nothing.
+-- `runner::choose` is the larger or the smaller. Assumes nothing.
 use borrow.Author.Needs.{needs}
 use Rattle.runner.specs.Rows.{chosen}
 use Rattle.runner.proofs.choose.Statement.{statement}

@@ -1,4 +1,4 @@
--- `runner::greater` meets its contract. Assumes nothing.
+-- `runner::greater` is the larger of two counts. Assumes nothing.
 use borrow.Author.Tests.{le-leb, lt-leb}
 use Rattle.theory.specs.Orders.{counts, larger}
 use Rattle.runner.proofs.greater.Statement.{statement}

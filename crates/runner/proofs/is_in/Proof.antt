@@ -1,4 +1,4 @@
--- `runner::is_in` meets its contract. Assumes nothing.
+-- `runner::is_in` tests a bit. Assumes nothing.
 use borrow.Author.Needs.{needs}
 use mathlib.Core.Path.{sym}
 use Rattle.theory.proofs.Places.{has-shift}

@@ -1,10 +1,9 @@
--- `runner::join` meets its contract. Assumes nothing.
+-- `runner::join` merges the last row into the one below it. Assumes nothing.
 use borrow.Author.Needs.{needs}
 use native.Mathlib.Omega.{arith}
 use native.Mathlib.Nat.{mul-le-mul-right}
-use Prim.Native.Nat.{ℕ, _+_, _-_, _*_}
-use mathlib.Core.Path.{_≡_, refl, sym, ap, _∙_}
-use lib.ListN.{length}
+use Prim.Native.Nat.{_-_, _*_}
+use mathlib.Core.Path.{refl}
 use Rattle.runner.proofs.Parts.{mid-length}
 use Rattle.runner.proofs.Stacks.{rows-joined}
 use Rattle.runner.proofs.join.Statement.{statement}

@@ -1,4 +1,4 @@
--- `runner::lesser` meets its contract. Assumes nothing.
+-- `runner::lesser` is the smaller of two counts. Assumes nothing.
 use borrow.Author.Tests.{le-leb, lt-leb}
 use Rattle.theory.specs.Orders.{counts, smaller}
 use Rattle.runner.proofs.lesser.Statement.{statement}

@@ -1,18 +1,18 @@
--- `runner::list` meets its contract. Assumes nothing.
+-- `runner::list` lists the shifts of the positions passed. Assumes nothing.
 use borrow.Author.Needs.{needs}
 use native.Mathlib.Omega.{arith}
 use Prim.Native.Nat.{_-_}
 use mathlib.Core.Bool.{Bool, cond}
-use mathlib.Core.Path.{_≡_, refl, sym, ap, _∙_}
+use mathlib.Core.Path.{ap, _∙_}
 use Rattle.runner.proofs.Listed.{Listed, listed-none, listed-more, listed-all, byte-is, byte-small}
 use Rattle.runner.proofs.list.Statement.{statement}
 use Rattle.runner.proofs.list.Tie as tie
 
 abbrev Inv-loop : tie.InvT-loop
-Inv-loop shifts₀ set mirrored base n₀ i₀ shifts n i = Listed mirrored base set shifts n i
+Inv-loop shifts₀ set mirrored centre n₀ i₀ shifts n i = Listed mirrored centre set shifts n i
 
 abbrev μ-loop : tie.MeasureT-loop
-μ-loop shifts₀ set mirrored base n₀ i₀ shifts n i = 9 - i
+μ-loop shifts₀ set mirrored centre n₀ i₀ shifts n i = 9 - i
 
 loop-holds : tie.Need-loop-holds Inv-loop μ-loop
 loop-holds c = listed-none _ _ _ _ (c .before .pre .0)

@@ -1,4 +1,4 @@
--- `runner::lowest` meets its contract. Assumes nothing.
+-- `runner::lowest` is the first position that is listed. Assumes nothing.
 use borrow.Author.Needs.{needs}
 use native.Mathlib.Omega.{arith}
 use mathlib.Core.Bool.{false}
@@ -24,7 +24,7 @@ returns c =
     let B = c .before .before .before .args .set in
     let shifts = c .before .list .last .0 in
     let wide : length shifts ≡ 9 = omega arith in
-    let e : getD shifts 0 0 ≡ low B = first-listed false 0 B shifts (c .before .list .result) (c .before .before .before .pre .0) (c .before .before .before .pre .1) wide (c .before .list .ensures .0) (c .before .list .ensures .1) ∙ omega arith in
+    let e : getD shifts 0 0 ≡ low B = first-listed false 8 B shifts (c .before .list .result) (c .before .before .before .pre .0) (c .before .before .before .pre .1) wide (c .before .list .ensures .0) (c .before .list .ensures .1) ∙ omega arith in
     (e, omega (arith, e, low-small B (c .before .before .before .pre .0) (c .before .before .before .pre .1)))
 
 pub lowest-spec : {M : Type 1} → statement M

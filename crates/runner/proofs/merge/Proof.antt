@@ -1,8 +1,8 @@
--- `runner::merge` meets its contract. Assumes nothing.
+-- `runner::merge` fills its slice from the front by its rule, which reads the element that is still as it was. Assumes nothing.
 use borrow.Author.Needs.{needs}
-use Prim.Native.Nat.{ℕ, _+_, _-_, _≤_}
+use Prim.Native.Nat.{_+_, _-_}
 use native.Mathlib.Omega.{arith}
-use mathlib.Core.Path.{_≡_, refl, sym, ap, _∙_}
+use mathlib.Core.Path.{ap, _∙_}
 use lib.ListN.{length, getD}
 use Rattle.theory.proofs.Fills.{Filled, fill-none, fill-here, fill-more, fill-all}
 use Rattle.runner.specs.Rows.{chosen, merged}

@@ -1,4 +1,4 @@
--- `runner::push` meets its contract. Assumes nothing.
+-- `runner::push` writes the scan's row after those held. Assumes nothing.
 use borrow.Author.Needs.{needs}
 use native.Mathlib.Omega.{arith}
 use Prim.Native.Nat.{ℕ, _+_, _-_, _*_}

@@ -1,13 +1,13 @@
--- `runner::rank` meets its contract. Assumes nothing.
+-- `runner::rank` lists the set's shifts, widens the row and takes the k-th largest. Assumes nothing.
 use borrow.Author.Needs.{needs}
 use native.Mathlib.Omega.{arith}
-use Prim.Native.Nat.{ℕ, _+_, _≤_}
+use Prim.Native.Nat.{ℕ, _+_}
 use mathlib.Core.Bool.{false}
-use mathlib.Core.Path.{_≡_, refl, sym, ap, ap₂, _∙_}
+use mathlib.Core.Path.{_≡_, ap₂, _∙_}
 use mathlib.Core.List.{List}
 use lib.ListN.{length}
 use Rattle.theory.specs.Ranks.{kth}
-use Rattle.runner.specs.Rows.{around, picked, rankedRow}
+use Rattle.runner.specs.Rows.{around, picked}
 use Rattle.runner.proofs.Listed.{reaching, listed-size}
 use Rattle.runner.proofs.rank.Statement.{statement}
 use Rattle.runner.proofs.rank.Tie as tie
@@ -46,7 +46,7 @@ same-length-2 : tie.Need-same-length-2
 same-length-2 c = search needs
 
 returns : tie.Need-returns
-unfolding rankedRow picked
+unfolding picked
 returns c =
     let a = c .before .before .before .before .before .before .before .before .before .before .before .before .before .before .before .before .args in
     c .before .before .select .ensures ∙ ap₂ (λ (cs w : List ℕ). around (kth (a .k)) cs (length (a .top .now)) w) (c .before .before .before .before .before .before .before .before .before .before .before .before .list .ensures .1) (c .before .before .before .before .before .before .before .before .widen .ensures)

@@ -1,4 +1,4 @@
--- `runner::run` meets its contract. Assumes nothing.
+-- `runner::run` fills where nothing is refused, and leaves the slice as it was otherwise. Assumes nothing.
 use borrow.Author.Needs.{needs}
 use mathlib.Core.Path.{sym, _∙_}
 use lib.ListN.{length}

@@ -1,11 +1,11 @@
--- `runner::stretch` meets its contract. Assumes nothing.
+-- `runner::stretch` lists the set's shifts, widens the row and sweeps. Assumes nothing.
 use borrow.Author.Needs.{needs}
 use native.Mathlib.Omega.{arith}
 use Prim.Native.Nat.{ℕ, _+_}
-use mathlib.Core.Path.{_≡_, refl, sym, ap, ap₂, _∙_}
+use mathlib.Core.Path.{_≡_, ap₂, _∙_}
 use mathlib.Core.List.{List}
 use lib.ListN.{length}
-use Rattle.runner.specs.Rows.{widened, around, extreme, picked, stretched}
+use Rattle.runner.specs.Rows.{around, extreme, picked, stretched}
 use Rattle.runner.proofs.Listed.{reaching}
 use Rattle.runner.proofs.stretch.Statement.{statement}
 use Rattle.runner.proofs.stretch.Tie as tie
@@ -27,7 +27,7 @@ sweep-requires c κs =
     let a = c .before .before .before .before .before .before .before .before .before .before .before .before .before .args in
     let s : length (c .before .before .before .before .before .before .before .before .before .list .last .0) ≡ 9 = omega arith in
     let r : length (c .before .before .before .before .before .widen .last .0) ≡ length (a .top .now) + 16 = omega arith in
-    reaching (a .high) (a .base) (a .set) (c .before .before .before .before .before .before .before .before .before .list .last .0) (c .before .before .before .before .before .before .before .before .before .list .result) (c .before .before .before .before .before .before .before .before .before .before .before .before .before .pre .0 .not-none) (c .before .before .before .before .before .before .before .before .before .before .before .before .before .pre .0 .set) s (c .before .before .before .before .before .before .before .before .before .list .ensures .0) (c .before .before .before .before .before .before .before .before .before .list .ensures .1)
+    reaching (a .high) (a .centre) (a .set) (c .before .before .before .before .before .before .before .before .before .list .last .0) (c .before .before .before .before .before .before .before .before .before .list .result) (c .before .before .before .before .before .before .before .before .before .before .before .before .before .pre .0 .not-none) (c .before .before .before .before .before .before .before .before .before .before .before .before .before .pre .0 .set) s (c .before .before .before .before .before .before .before .before .before .list .ensures .0) (c .before .before .before .before .before .before .before .before .before .list .ensures .1)
     (c .before .before .before .before .before .before .before .before .before .before .before .before .before .pre .1) (c .before .before .before .before .before .widen .last .0) (length (a .top .now)) r
 
 same-length : tie.Need-same-length

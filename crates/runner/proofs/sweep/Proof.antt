@@ -1,8 +1,8 @@
--- `runner::sweep` meets its contract. Assumes nothing.
+-- `runner::sweep` takes the last shift first, and then one more at each turn. Assumes nothing.
 use borrow.Author.Needs.{needs}
 use native.Mathlib.Omega.{arith}
 use Prim.Native.Nat.{ℕ, _-_}
-use mathlib.Core.Path.{_≡_, refl, sym, ap, _∙_}
+use mathlib.Core.Path.{_≡_, sym, ap, _∙_}
 use lib.ListN.{length, getD, take}
 use Rattle.runner.specs.Rows.{part, around, extreme}
 use Rattle.runner.proofs.Sweeps.{Swept, swept-first, swept-more, swept-all}

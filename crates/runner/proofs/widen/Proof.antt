@@ -1,4 +1,4 @@
--- `runner::widen` meets its contract. Assumes nothing.
+-- `runner::widen` fills the two ends and the middle. Assumes nothing.
 use borrow.Author.Needs.{needs}
 use Prim.Native.Nat.{_+_, _-_}
 use lib.ListN.{length}
