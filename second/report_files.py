@@ -1,6 +1,8 @@
 """Runs the report program on whole files and compares the line that it prints with the rules.
 
-    python3 second/report_files.py PROGRAM
+    python3 second/report_files.py COMMAND..
+
+The command is the program, behind its emulator where one is needed.
 
 The files are those that the group `reports` counts (sound, damaged, cut off, empty, the longest and
 one byte longer), a large one, and an input without end, of which the program may read only as
@@ -31,29 +33,29 @@ def whole_files():
     yield [0] * 1_000_000
 
 
-def check_file(program, file):
-    printed = subprocess.run([program], input=bytes(file), stdout=subprocess.PIPE).stdout.decode()
+def check_file(command, file):
+    printed = subprocess.run(command, input=bytes(file), stdout=subprocess.PIPE).stdout.decode()
     if printed != line_for(file):
         sys.exit("a file of %d bytes: printed %r, and not %r" % (len(file), printed, line_for(file)))
 
 
-def check_endless_input(program):
+def check_endless_input(command):
     """The program ends by itself, and its line is that of a file that is too long."""
     with open("/dev/zero", "rb") as zeros:
-        printed = subprocess.run([program], stdin=zeros, stdout=subprocess.PIPE, timeout=60).stdout
+        printed = subprocess.run(command, stdin=zeros, stdout=subprocess.PIPE, timeout=60).stdout
     if printed != b"refused 11 0\n":
         sys.exit("an endless input: printed %r" % printed)
 
 
-def main(program):
+def main(command):
     files = list(whole_files())
     for file in files:
-        check_file(program, file)
-    check_endless_input(program)
+        check_file(command, file)
+    check_endless_input(command)
     print("the report program printed the right line for %d files" % (len(files) + 1))
 
 
 if __name__ == "__main__":
-    if len(sys.argv) != 2:
+    if len(sys.argv) < 2:
         sys.exit(__doc__)
-    main(sys.argv[1])
+    main(sys.argv[1:])

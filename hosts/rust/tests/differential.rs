@@ -73,7 +73,7 @@ fn setting(name: &str, unless_set: u64) -> u64 {
 /// for an answer among them, must have been met.
 fn try_call(call: u64, numbers: &[u8], one: impl Fn(&mut Random) -> (u8, Option<String>)) {
     let seed = setting("STACKFILTER_SEED", 1986);
-    let inputs = setting("STACKFILTER_INPUTS", 220_000).div_ceil(CALLS);
+    let inputs = (setting("STACKFILTER_INPUTS", 220_000) + CALLS - 1) / CALLS;
     let mut met: BTreeMap<u8, u64> = BTreeMap::new();
     for index in 0..inputs {
         let mut random = Random::new(seed ^ call << 56 ^ index << 16);

@@ -14,7 +14,7 @@ pub fn within(part: u16, whole: u16) -> bool {
 pub fn check(terms: &[u16]) -> Result<(), No> {
     for (index, term) in terms.iter().enumerate() {
         let earlier = &terms[..index];
-        let not_above = earlier.last().is_some_and(|before| term <= before);
+        let not_above = earlier.last().map_or(false, |before| term <= before);
         if *term >= PATTERNS || not_above || earlier.iter().any(|part| within(*part, *term)) {
             return Err((7, index));
         }

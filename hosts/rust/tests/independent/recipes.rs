@@ -85,8 +85,9 @@ fn allowed(fields: Fields) -> bool {
 
 /// The reach after a step, by the table's last column, from the reaches of the signals it takes.
 pub fn reach(fields: Fields, taken: &[(i64, i64)]) -> (i64, i64) {
-    let Some(&(low, high)) = taken.first() else {
-        return (0, 0);
+    let (low, high) = match taken.first() {
+        Some(&reach) => reach,
+        None => return (0, 0),
     };
     if let [_, (other_low, other_high)] = *taken {
         return (low.min(other_low), high.max(other_high));
@@ -103,8 +104,9 @@ pub fn reach(fields: Fields, taken: &[(i64, i64)]) -> (i64, i64) {
 /// What a step makes of the signals it takes.
 fn plan(fields: Fields, mut taken: Vec<Plan>) -> Plan {
     let set = offsets(fields.set);
-    let Some(last) = taken.pop().map(Box::new) else {
-        return Plan::Scan;
+    let last = match taken.pop() {
+        Some(plan) => Box::new(plan),
+        None => return Plan::Scan,
     };
     if let Some(other) = taken.pop().map(Box::new) {
         return if fields.code == 7 { Plan::Larger(other, last) } else { Plan::Smaller(other, last) };
@@ -115,7 +117,7 @@ fn plan(fields: Fields, mut taken: Vec<Plan>) -> Plan {
         3 => Plan::Largest(Box::new(Plan::Least(last, set.clone())), set),
         4 => Plan::Least(Box::new(Plan::Largest(last, set.clone())), set),
         5 => Plan::Rank(last, fields.rank as usize, set),
-        _ => Plan::Rank(last, set.len().div_ceil(2), set),
+        _ => Plan::Rank(last, (set.len() + 1) / 2, set),
     }
 }
 
