@@ -1,8 +1,10 @@
 """Inputs by chance, from a generator of our own so that no Python version can change them."""
 
-from rules.forms import SETS, function_of, number_of, table_of
-from rules.recipes import (CLOSE, DILATE, ERODE, LARGER, MEDIAN, MOST_SIGNALS, OPEN, RANK, SIGNAL,
-                           SMALLER, Step, fields_are_allowed, reaches_after)
+from rules.forms import OFFSETS, SETS, function_of, number_of, table_of
+from rules.limits import (BYTE_BITS, LARGEST_SET, LARGEST_WORD, MOST_SIGNALS, PATTERNS, STEP_BYTES,
+                          TOP, WIDTH)
+from rules.recipes import (CLOSE, DILATE, ERODE, LARGER, MEDIAN, OPEN, RANK, SIGNAL, SMALLER, Step,
+                           fields_are_allowed, is_near, reaches_after)
 
 
 class Chance:
@@ -29,14 +31,14 @@ class Chance:
 
 def some_set(chance, size):
     """A set of so many offsets, as its number."""
-    offsets = list(range(-4, 5))
+    offsets = list(OFFSETS)
     return number_of(offsets.pop(chance.below(len(offsets))) for _ in range(size))
 
 
 def form(chance, tries):
     """The smallest sets among so many: sizes lie close together, so that few contain another."""
-    size = chance.between(1, 8)
-    drawn = {some_set(chance, min(9, size + chance.below(2))) for _ in range(tries)}
+    size = chance.between(1, WIDTH - 1)
+    drawn = {some_set(chance, min(WIDTH, size + chance.below(2))) for _ in range(tries)}
     return sorted(v for v in drawn if not any(SETS[u] < SETS[v] for u in drawn))
 
 
@@ -50,15 +52,16 @@ def damaged_form(chance):
     for _ in range(chance.between(1, 2)):
         at, kind = chance.below(len(terms) + 1), chance.below(5)
         if kind == 0:
-            terms.insert(at, chance.one_of([512, 513, 1024, 32768, 65535, 512 + terms[0]]))
+            terms.insert(at, chance.one_of([PATTERNS, PATTERNS + 1, 1024, 32768, LARGEST_WORD,
+                                             PATTERNS + terms[0]]))
         elif kind == 1:
             terms.insert(at, chance.one_of(terms))
         elif kind == 2:
-            terms.insert(at, chance.below(512))
+            terms.insert(at, chance.below(PATTERNS))
         elif kind == 3:
             terms[at:at + 2] = reversed(terms[at:at + 2])
         else:
-            terms.append(min(511, chance.one_of(terms) | 256))
+            terms.append(min(LARGEST_SET, chance.one_of(terms) | 256))
     return terms
 
 
@@ -68,8 +71,8 @@ def positive_table(chance):
 
 def nearly_positive_table(chance):
     """A positive table with one value turned round."""
-    table, v = positive_table(chance), chance.below(512)
-    table[v // 8] ^= 2 ** (v % 8)
+    table, v = positive_table(chance), chance.below(PATTERNS)
+    table[v // BYTE_BITS] ^= 2 ** (v % BYTE_BITS)
     return table
 
 
@@ -82,11 +85,11 @@ def scan(chance, most=20):
     if kind == 0:
         values = [chance.below(4) for _ in range(3)]
     elif kind == 1:
-        values = [0, 65535, chance.below(65536)]
+        values = [0, TOP, chance.between(0, TOP)]
     elif kind == 2:
-        values = [0, 1, 2, 65533, 65534, 65535]
+        values = [0, 1, 2, TOP - 2, TOP - 1, TOP]
     else:
-        values = [chance.below(65536) for _ in range(size)]
+        values = [chance.between(0, TOP) for _ in range(size)]
     return [chance.one_of(values) for _ in range(size)]
 
 
@@ -97,13 +100,12 @@ def recipe_of(steps):
 
 
 def fitting_step(chance, reaches):
-    """A step 1 to 6 that keeps the last signal's reach inside -4 to 4."""
+    """A step from erode to median that keeps the last signal's reach near."""
     for _ in range(60):
         code, b = chance.between(ERODE, MEDIAN), some_set(chance, chance.between(1, 5))
         step = Step(code, chance.between(1, len(SETS[b])) if code == RANK else 0, b)
         if fields_are_allowed(step):
-            reach = reaches_after(step, reaches)[-1]
-            if -4 <= reach.lo and reach.hi <= 4:
+            if is_near(reaches_after(step, reaches)[-1]):
                 return step
     return Step(chance.one_of([ERODE, DILATE, OPEN, CLOSE, MEDIAN]), 0, 16)
 
@@ -126,22 +128,23 @@ def accepted_recipe(chance, size):
 
 def any_step(chance):
     """A step whose fields may be at fault."""
-    return Step(chance.one_of([0, 1, 2, 3, 4, 5, 6, 7, 8, 9, 255]),
-                chance.one_of([0, 0, 0, 1, 2, 9]),
-                chance.one_of([0, 16, 56, 48, 1, 256, 511, 512, 65535, chance.below(512)]))
+    return Step(chance.one_of([*range(SMALLER + 2), 255]),
+                chance.one_of([0, 0, 0, 1, 2, WIDTH]),
+                chance.one_of([0, 16, 56, 48, 1, 256, LARGEST_SET, PATTERNS, LARGEST_WORD,
+                               chance.below(PATTERNS)]))
 
 
 def damaged_recipe(chance):
     """An accepted recipe with a step exchanged, put in or taken out."""
     recipe = accepted_recipe(chance, chance.between(1, 10))
-    at = 4 * chance.below(len(recipe) // 4)
+    at = STEP_BYTES * chance.below(len(recipe) // STEP_BYTES)
     kind = chance.below(4)
     if kind == 0:
-        recipe[at:at + 4] = recipe_of([any_step(chance)])
+        recipe[at:at + STEP_BYTES] = recipe_of([any_step(chance)])
     elif kind == 1:
         recipe[at:at] = recipe_of([any_step(chance)])
     elif kind == 2:
-        del recipe[at:at + 4]
+        del recipe[at:at + STEP_BYTES]
     else:
-        recipe[at + chance.below(4)] ^= 2 ** chance.below(8)
+        recipe[at + chance.below(STEP_BYTES)] ^= 2 ** chance.below(BYTE_BITS)
     return recipe

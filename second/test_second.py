@@ -7,12 +7,14 @@ import unittest
 from itertools import combinations
 
 from chance import Chance, accepted_recipe, any_form, damaged_form, recipe_of, scan as some_scan
-from groups.forms import subsets_of_size
+from groups.forms import LONGEST_FORM
 from groups.recipes import closing, dilate, erode, median, opening, rank, signal, smaller
 from groups.scans import MEDIAN_3, MEDIAN_5, dual, mirrored, runs
-from rules import files, forms, recipes, scans
+from rules import files, forms, limits, recipes, scans
 from rules.forms import number_of
-from rules.recipes import Step
+from rules.limits import (LARGEST_SET, LONGEST_RECIPE, MOST_SAMPLES, MOST_SIGNALS, MOST_STEPS,
+                          MOST_TERMS, PRESETS, REACH, TABLE_BYTES, TOP, WIDTH)
+from rules.recipes import SMALLER, Step
 from rules.refusals import Refused
 from vectors import CASES
 from wire import call, checksum, line, record
@@ -31,7 +33,7 @@ def ran(scan, *steps):
 
 
 def form(*steps):
-    lent = [0] * 126
+    lent = [0] * MOST_TERMS
     return lent[:recipes.compile_recipe(recipe_of(steps), lent)]
 
 
@@ -48,7 +50,15 @@ class Case(unittest.TestCase):
 
 
 class ScopeDocument(Case):
-    """Its "Cases at the edges" and "Ways this goes wrong"."""
+    """Its numbers, its "Cases at the edges" and "Ways this goes wrong"."""
+
+    def test_numbers(self):
+        self.assertEqual((list(forms.OFFSETS), WIDTH), ([-4, -3, -2, -1, 0, 1, 2, 3, 4], 9))
+        self.assertEqual((limits.PATTERNS, LARGEST_SET), (512, 511))
+        self.assertEqual((TABLE_BYTES, MOST_TERMS), (64, 126))
+        self.assertEqual((MOST_SAMPLES, TOP), (16384, 65535))
+        self.assertEqual((MOST_STEPS, LONGEST_RECIPE, MOST_SIGNALS, PRESETS), (32, 128, 8, 20))
+        self.assertEqual((limits.TRAILER_BYTES, limits.LONGEST_FILE), (12, 33032))
 
     def test_forms_of_recipes(self):
         self.assertEqual(form(signal), [16])
@@ -65,7 +75,7 @@ class ScopeDocument(Case):
         self.assertEqual(ran([5, 0, 0], signal, erode(56), dilate(56)), [5, 0, 0])
         self.assertEqual(ran([7], signal, erode(1)), [7])
         self.assertEqual(cleaned([], [3, 9]), [0, 0])
-        self.assertEqual(cleaned([0], [3, 9]), [65535, 65535])
+        self.assertEqual(cleaned([0], [3, 9]), [TOP, TOP])
 
     def test_recipes_accepted_and_refused(self):
         def judge(*steps):
@@ -81,7 +91,7 @@ class ScopeDocument(Case):
     def test_lists_and_tables_refused(self):
         self.refused(7, 1, forms.check, [24, 16])
         self.refused(7, 1, forms.check, [16, 24])
-        self.refused(12, 0, forms.table_to_form, [1] + [0] * 63, [])
+        self.refused(12, 0, forms.table_to_form, [1] + [0] * (TABLE_BYTES - 1), [])
 
     def test_ways_this_goes_wrong(self):
         self.assertEqual(form(signal, rank(1, 48)), [16, 32])
@@ -108,29 +118,29 @@ class Readings(Case):
         self.refused(5, 2, self.judge, signal, erode(256), opening(48))
 
     def test_first_faulty_step_decides(self):
-        self.refused(5, 2, self.judge, signal, erode(1), erode(1), Step(9, 0, 0))
+        self.refused(5, 2, self.judge, signal, erode(1), erode(1), Step(SMALLER + 1, 0, 0))
         self.refused(3, 0, self.judge, erode(0))
         self.refused(3, 1, self.judge, signal, Step(7, 0, 1))
-        self.refused(4, 8, self.judge, *[signal] * 9)
+        self.refused(4, MOST_SIGNALS, self.judge, *[signal] * (MOST_SIGNALS + 1))
         self.refused(3, 1, self.judge, signal, median(48))
 
     def test_lengths(self):
-        for size in (0, 1, 3, 5, 127, 129, 132):
+        for size in (0, 1, 3, 5, LONGEST_RECIPE - 1, LONGEST_RECIPE + 1, LONGEST_RECIPE + 4):
             self.refused(1, size, recipes.judged, [0] * size)
-        self.assertEqual(len(self.judge(signal, *[median(16)] * 31)), 32)
+        self.assertEqual(len(self.judge(signal, *[median(16)] * (MOST_STEPS - 1))), MOST_STEPS)
 
     def test_slices(self):
         self.refused(10, 2, scans.clean, [16], [1, 2], [0] * 3)
         self.refused(10, 2, scans.residue, [16], [1, 2], [0])
         self.refused(10, 18, files.write, [16], [1, 2], [0] * 17)
-        self.refused(13, 65, forms.form_to_table, [16], [0] * 65)
+        self.refused(13, TABLE_BYTES + 1, forms.form_to_table, [16], [0] * (TABLE_BYTES + 1))
         self.assertEqual(forms.preset(0, []), 0)
         self.refused(6, 3, forms.preset, 10, [0, 0])
-        table = [0] * 64
+        table = [0] * TABLE_BYTES
         self.assertEqual(forms.form_to_table([24, 40, 48], table), 3)
 
     def test_preset_numbers_are_never_cut(self):
-        for number in (20, 255, 256, 276, 65536, 2 ** 32 - 1, 2 ** 64 - 1):
+        for number in (PRESETS, 255, 256, 256 + PRESETS, 2 ** 16, 2 ** 32 - 1, 2 ** 64 - 1):
             self.refused(14, number, forms.preset, number, [0] * 3)
 
     def test_reading(self):
@@ -139,10 +149,13 @@ class Readings(Case):
         self.refused(7, 1, files.read, files.file_of([24, 16], []), [], [])
         self.refused(6, 1, files.read, files.file_of([16], [1]), [], [])
         self.refused(10, 1, files.read, files.file_of([16], [1]), [], [0])
-        self.refused(7, 126, files.read, files.file_of(subsets_of_size(5) + [511], [1]), [], [])
-        self.refused(9, 16385, files.read, files.file_of([], [0] * 16385), [], [])
-        self.refused(9, 16510, files.count, files.file_of([], [0] * 16510))
-        self.refused(11, 0, files.count, files.file_of([], [0] * 16511))
+        too_many = LONGEST_FORM + [LARGEST_SET]
+        self.refused(7, MOST_TERMS, files.read, files.file_of(too_many, [1]), [], [])
+        too_long = [0] * (MOST_SAMPLES + 1)
+        self.refused(9, len(too_long), files.read, files.file_of([], too_long), [], [])
+        in_all = MOST_SAMPLES + MOST_TERMS
+        self.refused(9, in_all, files.count, files.file_of([], [0] * in_all))
+        self.refused(11, 0, files.count, files.file_of([], [0] * (in_all + 1)))
         self.refused(11, 0, files.count, [])
 
     def test_refused_calls_write_nothing_and_accepted_ones_no_more(self):
@@ -181,13 +194,13 @@ class Papers(Case):
     def test_003_closing_by_neighbours(self):
         """Proposition 6: {0} and the pairs {a, b}, a < 0 < b, 2 <= b - a <= n."""
         for n, b in ((2, 48), (3, 112), (4, 240), (5, 496)):
-            pairs = [number_of([a, c]) for a in range(-4, 0) for c in range(1, 5) if c - a <= n]
+            pairs = [number_of([a, c]) for a in range(-REACH, 0) for c in range(1, REACH + 1)
+                     if c - a <= n]
             self.assertEqual(form(signal, closing(b)), sorted([16] + pairs))
             self.assertEqual(len(pairs), n * (n - 1) // 2)
 
     def test_003_rank_5_of_9(self):
-        self.assertEqual(form(signal, rank(5, 511)), subsets_of_size(5))
-        self.assertEqual(len(subsets_of_size(5)), 126)
+        self.assertEqual(form(signal, rank(5, LARGEST_SET)), LONGEST_FORM)
 
     def test_computed_forms(self):
         self.assertEqual(form(signal, opening(240)), [30, 60, 120, 240])
@@ -228,16 +241,16 @@ class Laws(Case):
         chance = Chance(1)
         for _ in range(100):
             terms, scan = any_form(chance), some_scan(chance)
-            expected = [max([min([65535] + [scans.endless(scan, x + d) for d in forms.SETS[term]])
+            expected = [max([min([TOP] + [scans.endless(scan, x + d) for d in forms.SETS[term]])
                              for term in terms], default=0) for x in range(len(scan))]
             self.assertEqual(cleaned(terms, scan), expected)
 
     def test_levels_one_by_one(self):
         function = forms.function_of(MEDIAN_3)
-        scan = [3, 65535, 0, 40000]
+        scan = [3, TOP, 0, 40000]
         for x in range(len(scan)):
             around = {d: scans.endless(scan, x + d) for d in forms.OFFSETS}
-            levels = sum(function[scans.cut(around, t)] for t in range(1, 65536))
+            levels = sum(function[scans.cut(around, t)] for t in range(1, TOP + 1))
             self.assertEqual(scans.filtered_at(function, scan, x), levels)
 
     def test_mirror_and_dual(self):
@@ -246,14 +259,14 @@ class Laws(Case):
             terms, scan = any_form(chance), some_scan(chance)
             out = cleaned(terms, scan)
             self.assertEqual(cleaned(mirrored(terms), scan[::-1]), out[::-1])
-            self.assertEqual(cleaned(dual(terms), [65535 - s for s in scan]),
-                             [65535 - s for s in out])
+            self.assertEqual(cleaned(dual(terms), [TOP - s for s in scan]),
+                             [TOP - s for s in out])
 
     def test_compiled_form_is_the_recipe(self):
         chance = Chance(3)
         for _ in range(40):
             recipe, scan = accepted_recipe(chance, chance.between(1, 9)), some_scan(chance)
-            lent = [0] * 126
+            lent = [0] * MOST_TERMS
             terms = lent[:recipes.compile_recipe(recipe, lent)]
             out = [0] * len(scan)
             recipes.run_recipe(recipe, scan, out)
@@ -262,7 +275,7 @@ class Laws(Case):
     def test_tables_and_forms_are_inverse(self):
         chance = Chance(4)
         for _ in range(50):
-            terms, table, lent = any_form(chance), [0] * 64, [0] * 126
+            terms, table, lent = any_form(chance), [0] * TABLE_BYTES, [0] * MOST_TERMS
             forms.form_to_table(terms, table)
             self.assertEqual(lent[:forms.table_to_form(table, lent)], terms)
 
@@ -290,9 +303,11 @@ class Vectors(Case):
 
     def test_record(self):
         self.assertEqual(record(call("clean", [24], [1, 258], 2)).hex(" "),
-                         "02 01 00 00 00 18 00 02 00 00 00 01 00 02 01 02 00 00 00")
+                         "02 00 05 00 00 00 63 6c 65 61 6e "
+                         "01 00 00 00 18 00 02 00 00 00 01 00 02 01 00 00 00 00 02 00 00 00")
         self.assertEqual(record(call("preset", 2 ** 64 - 1, 3)).hex(" "),
-                         "07 ff ff ff ff ff ff ff ff 03 00 00 00")
+                         "07 00 06 00 00 00 70 72 65 73 65 74 00 00 00 00 00 00 00 00 00 00 00 00 "
+                         "03 00 00 00 ff ff ff ff ff ff ff ff")
 
     def test_line(self):
         self.assertEqual(line(call("clean", [16], [1, 2], 2)), "clean 0 2 : 1 2")
@@ -300,8 +315,8 @@ class Vectors(Case):
         self.assertEqual(line(call("residue", [], [], 2)), "residue 9 0 : -7 -7")
         self.assertEqual(line(call("root", [16], [1, 2])), "root 0 2")
         self.assertEqual(line(call("read", files.file_of([16], [5]), 2, 1)),
-                         "read 0 1 1 : 5 43981 ; 16")
-        self.assertEqual(line(call("table_to_form", [0] * 64, 41)),
+                         "read 0 1 1 : 5 43981 : 16")
+        self.assertEqual(line(call("table_to_form", [0] * TABLE_BYTES, 41)),
                          "table_to_form 0 0 : #%d" % checksum([43981] * 41))
 
     def test_checksum(self):

@@ -10,28 +10,28 @@ from rules.refusals import Refused
 
 # ---- the twelve calls
 
-# What an argument is. A lent slice is given as its number of elements.
-U16S, BYTES, NUMBER, LENT_U16, LENT_U8, LENT_I32 = range(6)
-FILLERS = {LENT_U16: 0xABCD, LENT_U8: 0xAB, LENT_I32: -7}
+# What an argument is. A lent slice is given as its length.
+TERMS, SCAN, BYTES, LENT_BYTES, LENT_WORDS, LENT_RESIDUES, NUMBER = range(7)
+# Every record has these.
+FIELDS = [TERMS, SCAN, BYTES]
+FILLERS = {LENT_BYTES: 0xAB, LENT_WORDS: 0xABCD, LENT_RESIDUES: -7}
 
-Kind = namedtuple("Kind", "op rule arguments")
+Kind = namedtuple("Kind", "number rule arguments")
 
 KINDS = {
-    "check": Kind(1, forms.check, [U16S]),
-    "clean": Kind(2, scans.clean, [U16S, U16S, LENT_U16]),
-    "residue": Kind(3, scans.residue, [U16S, U16S, LENT_I32]),
-    "root": Kind(4, scans.root, [U16S, U16S]),
-    "table_to_form": Kind(5, forms.table_to_form, [BYTES, LENT_U16]),
-    "form_to_table": Kind(6, forms.form_to_table, [U16S, LENT_U8]),
-    "preset": Kind(7, forms.preset, [NUMBER, LENT_U16]),
-    "run_recipe": Kind(8, recipes.run_recipe, [BYTES, U16S, LENT_U16]),
-    "compile": Kind(9, recipes.compile_recipe, [BYTES, LENT_U16]),
-    "write": Kind(10, files.write, [U16S, U16S, LENT_U8]),
-    "read": Kind(11, files.read, [BYTES, LENT_U16, LENT_U16]),
+    "check": Kind(1, forms.check, [TERMS]),
+    "clean": Kind(2, scans.clean, [TERMS, SCAN, LENT_WORDS]),
+    "residue": Kind(3, scans.residue, [TERMS, SCAN, LENT_RESIDUES]),
+    "root": Kind(4, scans.root, [TERMS, SCAN]),
+    "table_to_form": Kind(5, forms.table_to_form, [BYTES, LENT_WORDS]),
+    "form_to_table": Kind(6, forms.form_to_table, [TERMS, LENT_BYTES]),
+    "preset": Kind(7, forms.preset, [NUMBER, LENT_WORDS]),
+    "run_recipe": Kind(8, recipes.run_recipe, [BYTES, SCAN, LENT_WORDS]),
+    "compile": Kind(9, recipes.compile_recipe, [BYTES, LENT_WORDS]),
+    "write": Kind(10, files.write, [TERMS, SCAN, LENT_BYTES]),
+    "read": Kind(11, files.read, [BYTES, LENT_WORDS, LENT_WORDS]),
     "count": Kind(12, files.count, [BYTES]),
 }
-
-END = bytes([0])
 
 Call = namedtuple("Call", "name arguments")
 
@@ -41,26 +41,32 @@ def call(name, *arguments):
     return Call(name, arguments)
 
 
+def arguments_of(a_call):
+    """Each argument with what it is."""
+    return list(zip(KINDS[a_call.name].arguments, a_call.arguments))
+
+
 # ---- the record in stdin
 
-def u32(number):
-    return number.to_bytes(4, "little")
+def low_first(number, size):
+    return number.to_bytes(size, "little")
 
 
-def encoded(kind, argument):
-    if kind == U16S:
-        return u32(len(argument)) + b"".join(n.to_bytes(2, "little") for n in argument)
-    if kind == BYTES:
-        return u32(len(argument)) + bytes(argument)
-    if kind == NUMBER:
-        return argument.to_bytes(8, "little")
-    return u32(argument)
+def encoded(elements, size):
+    """How many elements there are, and each in so many bytes."""
+    return low_first(len(elements), 4) + b"".join(low_first(n, size) for n in elements)
 
 
 def record(a_call):
-    kind = KINDS[a_call.name]
-    return bytes([kind.op]) + b"".join(map(encoded, kind.arguments, a_call.arguments))
+    given = dict(arguments_of(a_call))
+    head = [low_first(KINDS[a_call.name].number, 2), encoded(a_call.name.encode(), 1)]
+    fields = [encoded(given.get(field, []), 1 if field == BYTES else 2) for field in FIELDS]
+    lent = [low_first(length, 4) for kind, length in arguments_of(a_call) if kind in FILLERS]
+    number = [low_first(given[NUMBER], 8)] if NUMBER in given else []
+    return b"".join(head + fields + lent + number)
 
+
+END = low_first(0, 2)
 
 # ---- the line in stdout
 
@@ -91,8 +97,8 @@ def lend(kind, argument):
 def outcome(a_call):
     """The call's number (0 where accepted), its values, and the lent slices after it."""
     kind = KINDS[a_call.name]
-    given = [lend(*pair) for pair in zip(kind.arguments, a_call.arguments)]
-    lent = [slice_ for k, slice_ in zip(kind.arguments, given) if k in FILLERS]
+    given = [lend(*argument) for argument in arguments_of(a_call)]
+    lent = [slice_ for argument, slice_ in zip(kind.arguments, given) if argument in FILLERS]
     try:
         answer = kind.rule(*given)
     except Refused as no:
@@ -103,15 +109,13 @@ def outcome(a_call):
 def line(a_call):
     number, values, lent = outcome(a_call)
     words = " ".join(map(str, [a_call.name, number, *values]))
-    if lent:
-        words += " :" + " ;".join(map(shown, lent))
-    return words
+    return words + "".join(" :" + shown(slice_) for slice_ in lent)
 
 
 # ---- for the eye
 
 def readable(kind, argument):
-    if kind in (U16S, BYTES):
+    if kind in (TERMS, SCAN, BYTES):
         if len(argument) > LONGEST_SHOWN:
             return "[%d elements]" % len(argument)
         return "[" + " ".join(map(str, argument)) + "]"
@@ -119,5 +123,4 @@ def readable(kind, argument):
 
 
 def described(a_call):
-    kind = KINDS[a_call.name]
-    return a_call.name + " " + " ".join(map(readable, kind.arguments, a_call.arguments))
+    return a_call.name + " " + " ".join(readable(*argument) for argument in arguments_of(a_call))

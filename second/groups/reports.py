@@ -6,6 +6,7 @@ import chance as by
 from groups import files
 from groups.scans import MEDIAN_3
 from rules.files import file_of
+from rules.limits import LARGEST_SET, TOP
 from wire import call
 
 
@@ -19,8 +20,8 @@ def read_files(chance):
 def counted(chance):
     """Spikes at the ends, beside each other and apart; both totals as large as they come."""
     for scan in ([10, 10, 90, 0, 10, 10], [90, 10, 10, 10, 90], [1, 9, 1, 9, 1, 9, 1],
-                 [5], [5, 5], [0, 65535, 0, 0, 65535, 0], [9, 0, 9, 9, 0, 0, 9, 0, 0]):
-        for terms in (MEDIAN_3, [16], [], [0], [511], [8], [24, 48], [16, 40]):
+                 [5], [5, 5], [0, TOP, 0, 0, TOP, 0], [9, 0, 9, 9, 0, 0, 9, 0, 0]):
+        for terms in (MEDIAN_3, [16], [], [0], [LARGEST_SET], [8], [24, 48], [16, 40]):
             yield call("count", file_of(terms, scan))
     for _ in range(60):
         yield call("count", file_of(by.any_form(chance), by.scan(chance)))

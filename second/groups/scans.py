@@ -1,8 +1,9 @@
 """Running a form, its residue and the root question."""
 
 import chance as by
-from groups.forms import BAD_LISTS, presets, subsets_of_size
+from groups.forms import ALSO_LONGEST, BAD_LISTS, LONGEST_FORM, NO_SET, SINGLE_OFFSETS, presets
 from rules.forms import OFFSETS, PATTERNS, form_of, function_of, number_of, set_of
+from rules.limits import LARGEST_SET, LARGEST_WORD, MOST_SAMPLES, TOP
 from rules.scans import filtered
 from wire import call
 
@@ -31,10 +32,10 @@ WORKED = [
     ([0], [3, 9]),
     ([1], [7]),
     # its edges: level 0 adds nothing, residues at both ends of the range
-    ([], [0, 65535]),
-    ([0], [0, 65535]),
-    ([511], [0]),
-    ([511], [65535]),
+    ([], [0, TOP]),
+    ([0], [0, TOP]),
+    ([LARGEST_SET], [0]),
+    ([LARGEST_SET], [TOP]),
     # the papers
     ([16, 40], [1, 1, 3, 2, 2]),
     ([24, 48], [2, 2, 0, 1, 1]),
@@ -63,13 +64,13 @@ def refusals():
     for terms in BAD_LISTS:
         yield from all_three(terms, scan)
     # 7 before 9 before 10
-    for terms in (MEDIAN_3, [], [24, 16], [16, 24], [512]):
+    for terms in (MEDIAN_3, [], [24, 16], [16, 24], [NO_SET]):
         for samples in ([], scan):
             for lent in (0, 2, 3):
                 yield call("clean", terms, samples, lent)
                 yield call("residue", terms, samples, lent)
             yield call("root", terms, samples)
-    many = subsets_of_size(5) + [511]
+    many = LONGEST_FORM + [LARGEST_SET]
     yield from all_three(many, scan)
     yield call("clean", many, [], 1)
 
@@ -85,13 +86,13 @@ def windows():
         term = number_of([d])
         yield call("clean", [term], STEPS, len(STEPS))
         yield call("clean", [term], [7], 1)
-        yield call("residue", [term], [0, 65535], 2)
-    yield call("clean", [511], STEPS, len(STEPS))
-    yield call("clean", subsets_of_size(1), STEPS, len(STEPS))
+        yield call("residue", [term], [0, TOP], 2)
+    yield call("clean", [LARGEST_SET], STEPS, len(STEPS))
+    yield call("clean", SINGLE_OFFSETS, STEPS, len(STEPS))
 
 
-PRESET_SCANS = [[2, 2, 0, 1, 1], [1, 1, 3, 2, 2], [0, 65535, 0, 65535, 65535, 0], [9, 7, 5, 3],
-                [3, 5, 7, 9], [0, 0, 0], [65535, 65535]]
+PRESET_SCANS = [[2, 2, 0, 1, 1], [1, 1, 3, 2, 2], [0, TOP, 0, TOP, TOP, 0], [9, 7, 5, 3],
+                [3, 5, 7, 9], [0, 0, 0], [TOP, TOP]]
 
 
 def preset_scans():
@@ -109,17 +110,17 @@ def mirrored(terms):
 def dual(terms):
     """The form whose function is 0 on the absent offsets where the form's is 1 on the present."""
     function = function_of(terms)
-    return form_of([not function[511 - v] for v in PATTERNS])
+    return form_of([not function[LARGEST_SET - v] for v in PATTERNS])
 
 
 def mirror_and_dual(terms, scan):
     yield call("clean", terms, scan, len(scan))
     yield call("clean", mirrored(terms), scan[::-1], len(scan))
-    yield call("clean", dual(terms), [65535 - s for s in scan], len(scan))
+    yield call("clean", dual(terms), [TOP - s for s in scan], len(scan))
 
 
 def related(chance):
-    for terms in presets() + [MEDIAN_5, subsets_of_size(5), subsets_of_size(4)]:
+    for terms in presets() + [MEDIAN_5, LONGEST_FORM, ALSO_LONGEST]:
         yield from mirror_and_dual(terms, by.scan(chance))
     for _ in range(60):
         yield from mirror_and_dual(by.any_form(chance), by.scan(chance))
@@ -155,35 +156,36 @@ def near_roots(chance):
         scan = settled(terms, by.scan(chance))
         yield call("root", terms, scan)
         at = chance.below(len(scan))
-        yield call("root", terms, scan[:at] + [chance.below(65536)] + scan[at + 1:])
+        yield call("root", terms, scan[:at] + [chance.between(0, TOP)] + scan[at + 1:])
 
 
 # ---- long scans
 
 def sawtooth(size, period):
-    return [(i % period) * (65535 // period) for i in range(size)]
+    return [(i % period) * (TOP // period) for i in range(size)]
 
 
 def long_scans(chance):
-    longest = [chance.one_of([0, 10, 500, 65535]) for _ in range(16384)]
-    yield call("clean", MEDIAN_3, longest, 16384)
-    yield call("clean", MEDIAN_3, longest, 16385)
-    yield call("residue", subsets_of_size(5), longest, 16384)
+    most = MOST_SAMPLES
+    longest = [chance.one_of([0, 10, 500, TOP]) for _ in range(most)]
+    yield call("clean", MEDIAN_3, longest, most)
+    yield call("clean", MEDIAN_3, longest, most + 1)
+    yield call("residue", LONGEST_FORM, longest, most)
     yield call("root", MEDIAN_5, longest)
     # a root but for the very last sample
-    yield call("root", MEDIAN_3, [4] * 16383 + [5])
-    yield call("root", [8, 16], [4] * 16383 + [5])
-    yield call("root", [8, 16], [4] * 16383 + [3])
-    for size in (16385, 100000):
+    yield call("root", MEDIAN_3, [4] * (most - 1) + [5])
+    yield call("root", [8, 16], [4] * (most - 1) + [5])
+    yield call("root", [8, 16], [4] * (most - 1) + [3])
+    for size in (most + 1, 100000):
         scan = sawtooth(size, 7)
-        yield call("clean", MEDIAN_3, scan, 16384)
-    yield call("residue", MEDIAN_3, sawtooth(16385, 5), 16385)
-    yield call("root", [16, 24], sawtooth(16385, 5))
-    yield call("root", [16], sawtooth(16385, 5))
-    yield call("clean", subsets_of_size(4), sawtooth(1000, 13), 1000)
+        yield call("clean", MEDIAN_3, scan, most)
+    yield call("residue", MEDIAN_3, sawtooth(most + 1, 5), most + 1)
+    yield call("root", [16, 24], sawtooth(most + 1, 5))
+    yield call("root", [16], sawtooth(most + 1, 5))
+    yield call("clean", ALSO_LONGEST, sawtooth(1000, 13), 1000)
     yield call("residue", MEDIAN_5, sawtooth(1000, 3), 1000)
     # lists as long as they come
-    yield call("clean", list(range(65535)), [1], 1)
+    yield call("clean", list(range(LARGEST_WORD)), [1], 1)
 
 
 def calls(chance):

@@ -3,12 +3,10 @@
 from itertools import groupby
 
 from .forms import check
+from .limits import (COUNT_BYTES, DISTANCE_BYTES, LONGEST_FILE, MARK, SAMPLE_BYTES, TERM_BYTES,
+                     TRAILER_BYTES, file_bytes)
 from .refusals import fill, refuse_if
 from .scans import check_output, check_scan, residues
-
-TRAILER_BYTES = 12
-MOST_FILE_BYTES = 33032
-MARK = [0x53, 0x46]
 
 
 def low_first(number, size):
@@ -19,9 +17,9 @@ def number_in(part):
     return int.from_bytes(bytes(part), "little")
 
 
-def pairs(part):
-    """The numbers of two bytes each, low byte first."""
-    return [number_in(part[i:i + 2]) for i in range(0, len(part), 2)]
+def numbers_in(part, size):
+    """The numbers of so many bytes each, low byte first."""
+    return [number_in(part[i:i + size]) for i in range(0, len(part), size)]
 
 
 # ---- writing
@@ -29,18 +27,22 @@ def pairs(part):
 def file_of(terms, scan):
     """The bytes: "Samples, two bytes each, low byte first; then terms likewise; then a 12-byte
     trailer that points back"."""
-    body = [byte for number in scan + terms for byte in low_first(number, 2)]
-    to_first_term = TRAILER_BYTES + 2 * len(terms)
-    to_first_sample = to_first_term + 2 * len(scan)
-    return (body + low_first(to_first_sample, 4) + low_first(to_first_term, 4)
-            + low_first(len(terms), 2) + MARK)
+    samples = [byte for sample in scan for byte in low_first(sample, SAMPLE_BYTES)]
+    body = samples + [byte for term in terms for byte in low_first(term, TERM_BYTES)]
+    to_first_sample, to_first_term = file_bytes(len(scan), len(terms)), file_bytes(0, len(terms))
+    return body + trailer_of(to_first_sample, to_first_term, len(terms), MARK)
+
+
+def trailer_of(to_first_sample, to_first_term, terms, mark):
+    return (low_first(to_first_sample, DISTANCE_BYTES) + low_first(to_first_term, DISTANCE_BYTES)
+            + low_first(terms, COUNT_BYTES) + list(mark))
 
 
 def write(terms, scan, out):
     """Order 7, 8, 9, 10. Returns the length written."""
     check(terms)
     check_scan(scan)
-    check_output(out, 2 * len(scan) + 2 * len(terms) + TRAILER_BYTES)
+    check_output(out, file_bytes(len(scan), len(terms)))
     fill(out, file_of(terms, scan))
     return len(out)
 
@@ -51,24 +53,31 @@ def is_laid_out_well(file):
     """Whether all of this holds: "12 to 33,032 bytes; the mark; the term distance is 12 + 2 x
     terms; the sample distance is the file length, is not below the term distance, and differs from
     it by an even number"."""
-    if not TRAILER_BYTES <= len(file) <= MOST_FILE_BYTES:
+    if not TRAILER_BYTES <= len(file) <= LONGEST_FILE:
         return False
-    trailer = file[-TRAILER_BYTES:]
-    to_first_sample, to_first_term = number_in(trailer[0:4]), number_in(trailer[4:8])
-    terms = number_in(trailer[8:10])
-    return (list(trailer[10:12]) == MARK
-            and to_first_term == TRAILER_BYTES + 2 * terms
+    to_first_sample, to_first_term, terms, mark = pointers_in(file)
+    return (mark == MARK
+            and to_first_term == TRAILER_BYTES + TERM_BYTES * terms
             and to_first_sample == len(file)
             and to_first_sample >= to_first_term
-            and (to_first_sample - to_first_term) % 2 == 0)
+            and (to_first_sample - to_first_term) % SAMPLE_BYTES == 0)
+
+
+def pointers_in(file):
+    """The trailer's two distances, number of terms and mark."""
+    parts, rest = [], file[-TRAILER_BYTES:]
+    for size in (DISTANCE_BYTES, DISTANCE_BYTES, COUNT_BYTES):
+        parts.append(number_in(rest[:size]))
+        rest = rest[size:]
+    return *parts, list(rest)
 
 
 def parts_of(file):
     """The samples and the terms of a file that is laid out well."""
-    terms = number_in(file[-4:-2])
-    body = file[:-TRAILER_BYTES]
-    first_term = len(body) - 2 * terms
-    return pairs(body[:first_term]), pairs(body[first_term:])
+    _, to_first_term, _, _ = pointers_in(file)
+    first_term = len(file) - to_first_term
+    terms = file[first_term:len(file) - TRAILER_BYTES]
+    return numbers_in(file[:first_term], SAMPLE_BYTES), numbers_in(terms, TERM_BYTES)
 
 
 def opened(file):

@@ -1,18 +1,18 @@
 """Sets of offsets, forms, truth tables and presets."""
 
+from . import limits
+from .limits import BYTE_BITS, LARGEST_SET, MOST_TERMS, REACH, TABLE_BYTES
 from .refusals import fill, refuse_if
 
-OFFSETS = range(-4, 5)
-PATTERNS = range(512)
-MOST_TERMS = 126
-TABLE_BYTES = 64
+OFFSETS = range(-REACH, REACH + 1)
+PATTERNS = range(limits.PATTERNS)
 
 
 # ---- sets of offsets
 
 def worth(offset):
     """By "offset d is worth 2^(d+4)"."""
-    return 2 ** (offset + 4)
+    return 2 ** (offset + REACH)
 
 
 def set_of(number):
@@ -36,7 +36,7 @@ def contains(outer, inner):
 
 def is_at_fault(terms, i):
     """Refusal 7: "a term is over 511, not above its predecessor, or contains an earlier one"."""
-    return (terms[i] > 511
+    return (terms[i] > LARGEST_SET
             or (i > 0 and terms[i] <= terms[i - 1])
             or any(contains(terms[i], earlier) for earlier in terms[:i]))
 
@@ -69,11 +69,11 @@ def form_of(function):
 
 def function_in(table):
     """By "bit v mod 8 of byte v / 8 (bit 0 lowest) is the value on pattern v"."""
-    return [table[v // 8] // 2 ** (v % 8) % 2 == 1 for v in PATTERNS]
+    return [table[v // BYTE_BITS] // 2 ** (v % BYTE_BITS) % 2 == 1 for v in PATTERNS]
 
 
 def table_of(function):
-    return [sum(2 ** bit for bit in range(8) if function[8 * byte + bit])
+    return [sum(2 ** bit for bit in range(BYTE_BITS) if function[BYTE_BITS * byte + bit])
             for byte in range(TABLE_BYTES)]
 
 
@@ -110,6 +110,7 @@ def fill_terms(lent_terms, terms):
 
 PRESET_TABLES = [0, 128, 136, 160, 168, 170, 192, 200, 204, 224,
                  232, 234, 236, 238, 240, 248, 250, 252, 254, 255]
+assert len(PRESET_TABLES) == limits.PRESETS
 
 
 def preset_function(table):
@@ -122,5 +123,5 @@ def preset_function(table):
 
 def preset(number, lent_terms):
     """Order 14, 6. Returns the number of terms."""
-    refuse_if(number > 19, 14, number)
+    refuse_if(number >= limits.PRESETS, 14, number)
     return fill_terms(lent_terms, form_of(preset_function(PRESET_TABLES[number])))

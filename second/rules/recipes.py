@@ -3,14 +3,11 @@
 from collections import namedtuple
 
 from .forms import PATTERNS, SETS, fill_terms, form_of
+from .limits import LARGEST_SET, LONGEST_RECIPE, MOST_SIGNALS, REACH, STEP_BYTES
 from .refusals import fill, refuse_if
 from .scans import check_output, check_scan, endless
 
 SIGNAL, ERODE, DILATE, OPEN, CLOSE, RANK, MEDIAN, LARGER, SMALLER = range(9)
-
-STEP_BYTES = 4
-MOST_BYTES = 128
-MOST_SIGNALS = 8
 
 Step = namedtuple("Step", "code rank b")
 Reach = namedtuple("Reach", "lo hi")
@@ -29,7 +26,7 @@ def fields_are_allowed(step):
     size of a median."""
     if step.code in (SIGNAL, LARGER, SMALLER):
         return step.rank == 0 and step.b == 0
-    if not 1 <= step.b <= 511:
+    if not 1 <= step.b <= LARGEST_SET:
         return False
     size = len(SETS[step.b])
     if step.code == RANK:
@@ -60,17 +57,22 @@ def reaches_after(step, reaches):
     return rest + [Reach(lo + least, hi + most)]
 
 
+def is_near(reach):
+    """Not so where the "reach leaves -4 to 4"."""
+    return -REACH <= reach.lo and reach.hi <= REACH
+
+
 def judged(recipe):
     """The recipe's steps. Order "1; then step by step 2, 3, 4, 5; then 4 at the end"."""
     size = len(recipe)
-    refuse_if(size == 0 or size % STEP_BYTES != 0 or size > MOST_BYTES, 1, size)
+    refuse_if(size == 0 or size % STEP_BYTES != 0 or size > LONGEST_RECIPE, 1, size)
     steps, reaches = steps_of(recipe), []
     for place, step in enumerate(steps):
         refuse_if(step.code > SMALLER, 2, place)
         refuse_if(not fields_are_allowed(step), 3, place)
         refuse_if(not signals_suffice(step, len(reaches)), 4, place)
         reaches = reaches_after(step, reaches)
-        refuse_if(reaches[-1].lo < -4 or reaches[-1].hi > 4, 5, place)
+        refuse_if(not is_near(reaches[-1]), 5, place)
     refuse_if(len(reaches) != 1, 4, len(steps))
     return steps
 
@@ -147,7 +149,7 @@ def run_recipe(recipe, scan, out):
 
 
 def recipe_function(steps):
-    """The steps' Boolean function: asked at position 0 of each 0/1 signal. Outside -4 to 4 the
+    """The steps' Boolean function: asked at position 0 of each 0/1 signal. Beyond the offsets the
     signals are 0; refusal 5 has seen to it that this can't matter."""
     def value(pattern):
         ones = SETS[pattern]

@@ -1,10 +1,8 @@
 """Scans, the filter of a form as a count of levels, its residue and its roots."""
 
 from .forms import OFFSETS, check, function_of, number_of
+from .limits import MOST_SAMPLES, TOP
 from .refusals import fill, refuse_if
-
-TOP_LEVEL = 65535
-MOST_SAMPLES = 16384
 
 
 def check_scan(scan):
@@ -39,7 +37,7 @@ def filtered_at(function, scan, x):
     counted by their number.
     """
     neighbours = {d: endless(scan, x + d) for d in OFFSETS}
-    bounds = sorted({0, TOP_LEVEL, *neighbours.values()})
+    bounds = sorted({0, TOP, *neighbours.values()})
     return sum(upper - lower
                for lower, upper in zip(bounds, bounds[1:])
                if function[cut(neighbours, upper)])

@@ -1,6 +1,6 @@
 -- Laws of compiling, and demand 3.
 pub mod Patterns
-pub mod Forms
+pub mod Batches
 pub mod Demand
 pub mod Compiles
 pub mod Decided

@@ -1,3 +1,3 @@
--- What the contract of compiling cites.
-pub mod Patterns
+-- What the contract of compiling cites, and what those of its private parts cite.
 pub mod Compile
+pub mod Patterns

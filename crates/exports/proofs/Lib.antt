@@ -1,2 +1,3 @@
 -- What the C interface's promises allow.
+pub mod Tells
 pub mod Decided

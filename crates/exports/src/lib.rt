@@ -8,176 +8,64 @@ use refusals::Answer;
 use reports::CountAnswer;
 use scans::RootAnswer;
 ghost use mathlib.Core.Path.{_≡_};
+ghost use mathlib.Core.List.{[], _∷_};
 ghost use lib.ListN.{length};
-ghost use Rattle.scans.specs.Run.{Ran, Resided, Rooted};
-ghost use Rattle.files.specs.Files.{WasRead, Wrote};
-ghost use Rattle.runner.specs.Run.{RecipeRan};
-ghost use Rattle.compiler.specs.Compile.{Compiled};
-ghost use Rattle.reports.specs.Counts.{WasCounted};
-ghost use Rattle.tables.specs.Tables.{Formed, Tabled};
+ghost use Rattle.theory.specs.Lists.{first};
+ghost use Rattle.theory.specs.Signals.{held, filteredAt, residueAt};
+ghost use Rattle.refusals.specs.Refusals.{answered, answerOf, written};
+ghost use Rattle.tables.specs.Tables.{TableToForm, FormToTable};
 ghost use Rattle.presets.specs.Presets.{Preset};
-ghost use Rattle.exports.specs.Told.{codeOf, valueOf, rootCodeOf, rootValueOf, readCodeOf, readValueOf, termsReadOf, countCodeOf, countValueOf, fiveOf, Told};
+ghost use Rattle.scans.specs.Run.{Clean, Residue, rootChecked, differs};
+ghost use Rattle.runner.specs.Run.{Run};
+ghost use Rattle.compiler.specs.Compile.{Compile};
+ghost use Rattle.files.specs.Layout.{countsFamily, fileTerms, fileSamples};
+ghost use Rattle.files.specs.Files.{Write, fileChecked, readChecked};
+ghost use Rattle.reports.specs.Counts.{countsOf};
+ghost use Rattle.exports.specs.Told.{Told};
+ghost use Rattle.exports.specs.Parts.{sampleIn, samplesIn, termsIn, countedIn, fiveIn};
 
-// The result that C is given of an answer.
-fn code(answer: Answer) -> u8
-    ensures { λ r. ⌜ r ≡ codeOf answer ⌝ }
+// ---- what C is told
+
+// The result, and the number that C finds at `value`.
+fn tell(answer: Answer, value: &mut usize) -> u8
+    ensures { λ r. ⌜ Told (λ a. a ≡ answer) r (now (value .exit)) ⌝ }
 {
     match answer {
-        Answer::Done(_) => 0,
-        Answer::Refused(refusal) => refusals::number(refusal),
+        Answer::Done(n) => {
+            *value = n;
+            0
+        }
+        Answer::Refused(refusal) => {
+            *value = refusal.place;
+            refusal.number
+        }
     }
 }
 
-// The number that C finds at `value`.
-fn value_in(answer: Answer) -> usize
-    ensures { λ r. ⌜ r ≡ valueOf answer ⌝ }
+// The first sample that differs, or the number of samples where none does.
+fn sample_in(answer: RootAnswer, samples: usize) -> Answer
+    ensures { λ r. ⌜ r ≡ sampleIn answer samples ⌝ }
 {
     match answer {
-        Answer::Done(n) => n,
-        Answer::Refused(refusal) => refusals::place(refusal),
+        RootAnswer::Root => Answer::Done(samples),
+        RootAnswer::Differs(x) => Answer::Done(x),
+        RootAnswer::Refused(refusal) => Answer::Refused(refusal),
     }
 }
 
-// Compiles a recipe; see compiler::compile. Refuses 1 to 5, 6; the terms go to `terms`, their number to `value`.
-#[no_mangle]
-pub extern "C" fn sf_compile(recipe: &[u8], terms: &mut [u16], value: &mut usize) -> u8
-    ensures { λ r. ⌜ Told (Compiled (now (recipe .entry)) (now (terms .entry)) (now (terms .exit))) codeOf valueOf r (now (value .exit)) ⌝ }
-{
-    let answer = compiler::compile(recipe, terms);
-    *value = value_in(answer);
-    code(answer)
-}
-
-// Runs a recipe directly; see runner::run. Refuses 1 to 5, 9, 10; the samples go to `out`, their number to `value`.
-#[no_mangle]
-pub extern "C" fn sf_run_recipe(
-    recipe: &[u8],
-    scan: &[u16],
-    out: &mut [u16],
-    value: &mut usize,
-) -> u8
-    ensures { λ r. ⌜ Told (RecipeRan (now (recipe .entry)) (now (scan .entry)) (now (out .entry)) (now (out .exit))) codeOf valueOf r (now (value .exit)) ⌝ }
-{
-    let answer = runner::run(recipe, scan, out);
-    *value = value_in(answer);
-    code(answer)
-}
-
-// A truth table to its form; see tables::table_to_form. Refuses 13, 12, 6; the terms go to `terms`, their number to `value`.
-#[no_mangle]
-pub extern "C" fn sf_table_to_form(table: &[u8], terms: &mut [u16], value: &mut usize) -> u8
-    ensures { λ r. ⌜ Told (Formed (now (table .entry)) (now (terms .entry)) (now (terms .exit))) codeOf valueOf r (now (value .exit)) ⌝ }
-{
-    let answer = tables::table_to_form(table, terms);
-    *value = value_in(answer);
-    code(answer)
-}
-
-// A form to its truth table; see tables::form_to_table. Refuses 7, 8, 13; the table goes to `table`, the number of terms to `value`.
-#[no_mangle]
-pub extern "C" fn sf_form_to_table(terms: &[u16], table: &mut [u8], value: &mut usize) -> u8
-    ensures { λ r. ⌜ Told (Tabled (now (terms .entry)) (now (table .entry)) (now (table .exit))) codeOf valueOf r (now (value .exit)) ⌝ }
-{
-    let answer = tables::form_to_table(terms, table);
-    *value = value_in(answer);
-    code(answer)
-}
-
-// A preset's form; see presets::preset. Refuses 14, 6; the terms go to `terms`, their number to `value`.
-#[no_mangle]
-pub extern "C" fn sf_preset(number: u64, terms: &mut [u16], value: &mut usize) -> u8
-    ensures { λ r. ⌜ Told (Preset number (now (terms .entry)) (now (terms .exit))) codeOf valueOf r (now (value .exit)) ⌝ }
-{
-    let answer = presets::preset(number, terms);
-    *value = value_in(answer);
-    code(answer)
-}
-
-// Runs a form on a scan; see scans::clean. Refuses 7, 8, 9, 10; the cleaned samples go to `out`, their number to `value`.
-#[no_mangle]
-pub extern "C" fn sf_clean(terms: &[u16], scan: &[u16], out: &mut [u16], value: &mut usize) -> u8
-    ensures { λ r. ⌜ Told (Ran (now (terms .entry)) (now (scan .entry)) (now (out .entry)) (now (out .exit))) codeOf valueOf r (now (value .exit)) ⌝ }
-{
-    let answer = scans::clean(terms, scan, out);
-    *value = value_in(answer);
-    code(answer)
-}
-
-// The residue of a form on a scan; see scans::residue. Refuses 7, 8, 9, 10; the residues go to `out`, their number to `value`.
-#[no_mangle]
-pub extern "C" fn sf_residue(terms: &[u16], scan: &[u16], out: &mut [i32], value: &mut usize) -> u8
-    ensures { λ r. ⌜ Told (Resided (now (terms .entry)) (now (scan .entry)) (now (out .entry)) (now (out .exit))) codeOf valueOf r (now (value .exit)) ⌝ }
-{
-    let answer = scans::residue(terms, scan, out);
-    *value = value_in(answer);
-    code(answer)
-}
-
-fn root_code(answer: RootAnswer) -> u8
-    ensures { λ r. ⌜ r ≡ rootCodeOf answer ⌝ }
+// The number of samples read.
+fn samples_in(answer: ReadAnswer) -> Answer
+    ensures { λ r. ⌜ r ≡ samplesIn answer ⌝ }
 {
     match answer {
-        RootAnswer::Root => 0,
-        RootAnswer::Differs(_) => 0,
-        RootAnswer::Refused(refusal) => refusals::number(refusal),
+        ReadAnswer::Read { samples, terms: _ } => Answer::Done(samples),
+        ReadAnswer::Refused(refusal) => Answer::Refused(refusal),
     }
 }
 
-fn root_value(answer: RootAnswer, samples: usize) -> usize
-    ensures { λ r. ⌜ r ≡ rootValueOf samples answer ⌝ }
-{
-    match answer {
-        RootAnswer::Root => samples,
-        RootAnswer::Differs(x) => x,
-        RootAnswer::Refused(refusal) => refusals::place(refusal),
-    }
-}
-
-// The root question; see scans::root. Refuses 7, 8, 9; `value` is the first sample that differs, or the number of samples where
-// the scan is a root.
-#[no_mangle]
-pub extern "C" fn sf_root(terms: &[u16], scan: &[u16], value: &mut usize) -> u8
-    ensures { λ r. ⌜ Told (Rooted (now (terms .entry)) (now (scan .entry))) rootCodeOf (rootValueOf (length (now (scan .entry)))) r (now (value .exit)) ⌝ }
-{
-    let answer = scans::root(terms, scan);
-    *value = root_value(answer, scan.len());
-    root_code(answer)
-}
-
-// Writes a scan file; see files::write. Refuses 7, 8, 9, 10; the file goes to `out`, its length to `value`.
-#[no_mangle]
-pub extern "C" fn sf_write(terms: &[u16], scan: &[u16], out: &mut [u8], value: &mut usize) -> u8
-    ensures { λ r. ⌜ Told (Wrote (now (terms .entry)) (now (scan .entry)) (now (out .entry)) (now (out .exit))) codeOf valueOf r (now (value .exit)) ⌝ }
-{
-    let answer = files::write(terms, scan, out);
-    *value = value_in(answer);
-    code(answer)
-}
-
-fn read_code(answer: ReadAnswer) -> u8
-    ensures { λ r. ⌜ r ≡ readCodeOf answer ⌝ }
-{
-    match answer {
-        ReadAnswer::Read {
-            samples: _,
-            terms: _,
-        } => 0,
-        ReadAnswer::Refused(refusal) => refusals::number(refusal),
-    }
-}
-
-fn read_value(answer: ReadAnswer) -> usize
-    ensures { λ r. ⌜ r ≡ readValueOf answer ⌝ }
-{
-    match answer {
-        ReadAnswer::Read { samples, terms: _ } => samples,
-        ReadAnswer::Refused(refusal) => refusals::place(refusal),
-    }
-}
-
-// The number of terms that were read; what stood there before, where nothing was.
+// The number of terms read; what stood there before, where nothing was.
 fn terms_in(answer: ReadAnswer, before: usize) -> usize
-    ensures { λ r. ⌜ r ≡ termsReadOf before answer ⌝ }
+    ensures { λ r. ⌜ r ≡ termsIn answer before ⌝ }
 {
     match answer {
         ReadAnswer::Read { samples: _, terms } => terms,
@@ -185,45 +73,19 @@ fn terms_in(answer: ReadAnswer, before: usize) -> usize
     }
 }
 
-// Reads a scan file; see files::read. Refuses 11, 7, 8, 9, 6, 10; the samples and the terms go to their slices, their numbers to
-// `value` and `terms_read`.
-#[no_mangle]
-pub extern "C" fn sf_read(
-    file: &[u8],
-    samples: &mut [u16],
-    terms: &mut [u16],
-    value: &mut usize,
-    terms_read: &mut usize,
-) -> u8
-    ensures { λ r. ⌜ Told (λ a. WasRead (now (file .entry)) (now (samples .entry)) (now (samples .exit)) (now (terms .entry)) (now (terms .exit)) a × (now («terms_read» .exit) ≡ termsReadOf (now («terms_read» .entry)) a)) readCodeOf readValueOf r (now (value .exit)) ⌝ }
-{
-    let answer = files::read(file, samples, terms);
-    *value = read_value(answer);
-    *terms_read = terms_in(answer, *terms_read);
-    read_code(answer)
-}
-
-fn count_code(answer: CountAnswer) -> u8
-    ensures { λ r. ⌜ r ≡ countCodeOf answer ⌝ }
+// The number of samples counted.
+fn counted_in(answer: CountAnswer) -> Answer
+    ensures { λ r. ⌜ r ≡ countedIn answer ⌝ }
 {
     match answer {
-        CountAnswer::Counted(_) => 0,
-        CountAnswer::Refused(refusal) => refusals::number(refusal),
-    }
-}
-
-fn count_value(answer: CountAnswer) -> usize
-    ensures { λ r. ⌜ r ≡ countValueOf answer ⌝ }
-{
-    match answer {
-        CountAnswer::Counted(counts) => counts.samples as usize,
-        CountAnswer::Refused(refusal) => refusals::place(refusal),
+        CountAnswer::Counted(counts) => Answer::Done(counts.samples as usize),
+        CountAnswer::Refused(refusal) => Answer::Refused(refusal),
     }
 }
 
 // The five numbers in the printed order; what stood there before, where nothing was counted.
 fn five_in(answer: CountAnswer, before: [u64; 5]) -> [u64; 5]
-    ensures { λ r. ⌜ r ≡ fiveOf before answer ⌝ }
+    ensures { λ r. ⌜ r ≡ fiveIn answer before ⌝ }
 {
     match answer {
         CountAnswer::Counted(counts) => [
@@ -237,14 +99,121 @@ fn five_in(answer: CountAnswer, before: [u64; 5]) -> [u64; 5]
     }
 }
 
+// ---- the calls
+
+// Compiles a recipe; see compiler::compile. Refuses 1 to 5, 6; the terms go to `terms`, their number to `value`.
+#[no_mangle]
+pub extern "C" fn sf_compile(recipe: &[u8], terms: &mut [u16], value: &mut usize) -> u8
+    ensures { λ r. ⌜ Told (Compile (now (recipe .entry)) (now (terms .entry)) (now (terms .exit))) r (now (value .exit)) ⌝ }
+{
+    tell(compiler::compile(recipe, terms), value)
+}
+
+// Runs a recipe directly; see runner::run. Refuses 1 to 5, 9, 10; the samples go to `out`, their number to `value`.
+#[no_mangle]
+pub extern "C" fn sf_run_recipe(
+    recipe: &[u8],
+    scan: &[u16],
+    out: &mut [u16],
+    value: &mut usize,
+) -> u8
+    ensures { λ r. ⌜ Told (Run (now (recipe .entry)) (now (scan .entry)) (now (out .entry)) (now (out .exit))) r (now (value .exit)) ⌝ }
+{
+    tell(runner::run(recipe, scan, out), value)
+}
+
+// A truth table to its form; see tables::table_to_form. Refuses 13, 12, 6; the terms go to `terms`, their number to `value`.
+#[no_mangle]
+pub extern "C" fn sf_table_to_form(table: &[u8], terms: &mut [u16], value: &mut usize) -> u8
+    ensures { λ r. ⌜ Told (TableToForm (now (table .entry)) (now (terms .entry)) (now (terms .exit))) r (now (value .exit)) ⌝ }
+{
+    tell(tables::table_to_form(table, terms), value)
+}
+
+// A form to its truth table; see tables::form_to_table. Refuses 7, 8, 13; the table goes to `table`, the number of terms to `value`.
+#[no_mangle]
+pub extern "C" fn sf_form_to_table(terms: &[u16], table: &mut [u8], value: &mut usize) -> u8
+    ensures { λ r. ⌜ Told (FormToTable (now (terms .entry)) (now (table .entry)) (now (table .exit))) r (now (value .exit)) ⌝ }
+{
+    tell(tables::form_to_table(terms, table), value)
+}
+
+// A preset's form; see presets::preset. Refuses 14, 6; the terms go to `terms`, their number to `value`.
+#[no_mangle]
+pub extern "C" fn sf_preset(number: u64, terms: &mut [u16], value: &mut usize) -> u8
+    ensures { λ r. ⌜ Told (Preset number (now (terms .entry)) (now (terms .exit))) r (now (value .exit)) ⌝ }
+{
+    tell(presets::preset(number, terms), value)
+}
+
+// Runs a form on a scan; see scans::clean. Refuses 7, 8, 9, 10; the cleaned samples go to `out`, their number to `value`.
+#[no_mangle]
+pub extern "C" fn sf_clean(terms: &[u16], scan: &[u16], out: &mut [u16], value: &mut usize) -> u8
+    ensures { λ r. ⌜ Told (Clean (now (terms .entry)) (now (scan .entry)) (now (out .entry)) (now (out .exit))) r (now (value .exit)) ⌝ }
+{
+    tell(scans::clean(terms, scan, out), value)
+}
+
+// The residue of a form on a scan; see scans::residue. Refuses 7, 8, 9, 10; the residues go to `out`, their number to `value`.
+#[no_mangle]
+pub extern "C" fn sf_residue(terms: &[u16], scan: &[u16], out: &mut [i32], value: &mut usize) -> u8
+    ensures { λ r. ⌜ Told (Residue (now (terms .entry)) (now (scan .entry)) (now (out .entry)) (now (out .exit))) r (now (value .exit)) ⌝ }
+{
+    tell(scans::residue(terms, scan, out), value)
+}
+
+// The root question; see scans::root. Refuses 7, 8, 9; `value` is the first sample that differs, or the number of samples where
+// the scan is a root.
+#[no_mangle]
+pub extern "C" fn sf_root(terms: &[u16], scan: &[u16], value: &mut usize) -> u8
+    ensures { λ r. ⌜ (let form = now (terms .entry) in
+        let s = now (scan .entry) in
+        Told (λ a. a ≡ answerOf (rootChecked form s) (first (differs (filteredAt held form s) s) (length s))) r (now (value .exit))) ⌝ }
+{
+    tell(sample_in(scans::root(terms, scan), scan.len()), value)
+}
+
+// Writes a scan file; see files::write. Refuses 7, 8, 9, 10; the file goes to `out`, its length to `value`.
+#[no_mangle]
+pub extern "C" fn sf_write(terms: &[u16], scan: &[u16], out: &mut [u8], value: &mut usize) -> u8
+    ensures { λ r. ⌜ Told (Write (now (terms .entry)) (now (scan .entry)) (now (out .entry)) (now (out .exit))) r (now (value .exit)) ⌝ }
+{
+    tell(files::write(terms, scan, out), value)
+}
+
+// Reads a scan file; see files::read. Refuses 11, 7, 8, 9, 6, 10; the samples and the terms go to their slices, their numbers to
+// `value` and `terms_read`.
+#[no_mangle]
+pub extern "C" fn sf_read(
+    file: &[u8],
+    samples: &mut [u16],
+    terms: &mut [u16],
+    value: &mut usize,
+    terms_read: &mut usize,
+) -> u8
+    ensures { λ r. ⌜ (let f = now (file .entry) in
+        let check = readChecked countsFamily f (length (now (samples .entry))) (length (now (terms .entry))) in
+        Told (λ a. a ≡ answerOf check (length (fileSamples f))) r (now (value .exit))
+        × (now (samples .exit) ≡ written check (fileSamples f) (now (samples .entry)))
+        × (now (terms .exit) ≡ written check (fileTerms f) (now (terms .entry)))
+        × (now («terms_read» .exit) ≡ answered check (length (fileTerms f)) (λ _. now («terms_read» .entry)))) ⌝ }
+{
+    let answer = files::read(file, samples, terms);
+    *terms_read = terms_in(answer, *terms_read);
+    tell(samples_in(answer), value)
+}
+
 // Counts for the report from a scan file; see reports::count. Refuses 11, 7, 8, 9; the five numbers go to `counts` in the printed
 // order, the number of samples to `value`.
 #[no_mangle]
 pub extern "C" fn sf_count(file: &[u8], counts: &mut [u64; 5], value: &mut usize) -> u8
-    ensures { λ r. ⌜ Told (λ a. WasCounted (now (file .entry)) a × (now (counts .exit) ≡ fiveOf (now (counts .entry)) a)) countCodeOf countValueOf r (now (value .exit)) ⌝ }
+    ensures { λ r. ⌜ (let f = now (file .entry) in
+        let check = fileChecked countsFamily f in
+        let c = countsOf (length (fileSamples f)) (residueAt held (fileTerms f) (fileSamples f)) in
+        Told (λ a. a ≡ answerOf check (length (fileSamples f))) r (now (value .exit))
+        × (now (counts .exit) ≡ answered check (c .samples ∷ c .changed ∷ c .spikes ∷ c .up ∷ c .down ∷ []) (λ _. now (counts .entry)))) ⌝ }
 {
     let answer = reports::count(file);
-    *value = count_value(answer);
     *counts = five_in(answer, *counts);
-    count_code(answer)
+    tell(counted_in(answer), value)
 }

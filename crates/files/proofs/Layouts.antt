@@ -1,59 +1,95 @@
--- What a file that is laid out well tells: its conditions as facts, and where its samples and terms lie.
+-- What a file that is laid out well tells: its conditions as facts, and where its samples and terms lie. Over the family.
 -- Assumes nothing.
 use mathlib.Core.Path.{_≡_}
-use mathlib.Core.Bool.{true, _&&_}
+use mathlib.Core.Bool.{Bool, true, not, _&&_}
 use mathlib.Core.List.{List}
-use Prim.Native.Nat.{ℕ, _+_, _-_, _*_, _/_, _%_, _≤_}
+use Prim.Native.Nat.{ℕ, _+_, _-_, _*_, _%_, _≤_}
+use native.Mathlib.Nat.{mul-le-mul-left, div-add-mod}
 use native.Mathlib.Omega.{arith}
 use lib.Dec.{leb, eqb}
 use lib.ListN.{length}
-use borrow.Author.Tests.{leb-true, le-leb, eqb-true, eq-eqb}
+use borrow.Author.Tests.{leb-true, le-leb, eqb-true, eq-eqb, not-false}
+use Rattle.limits.specs.Limits.{wordBytes, trailerBytes, mostTerms}
 use Rattle.theory.proofs.Tests.{and-left, and-right}
 use Rattle.theory.proofs.Lists.{length-tab}
+use Rattle.refusals.specs.Refusals.{refuseIf}
+use Rattle.refusals.specs.declared.Checked.the-variants.{Fine}
+use Rattle.refusals.proofs.Checks.{refuse-no, or-else-fine}
+use Rattle.files.specs.declared.Family.{Family}
 use Rattle.files.specs.Bytes.{wordAt, wordsFrom}
-use Rattle.files.specs.Layout.{fileLength, samplesBack, termsBack, termCount, sized, marked, pointsAtTerms, pointsAtSamples, laidWell, fileSamples, fileTerms}
+use Rattle.files.specs.Layout.{countsFamily, samplesBack, termsBack, termCount, termsDistance, pointsAtTerms, fileTerms}
+use Rattle.files.specs.Layout.{fileLength, Usable, sized, marked, pointsAtSamples, sampleCount, fileSamples}
+use Rattle.files.specs.Files.{layoutChecked}
+
+pub counts-usable : Usable countsFamily
+unfolding fileLength termsDistance
+counts-usable = record { wide = omega arith; low = omega arith }
+
+-- a file of no more samples and terms than allowed is no longer than the longest
+pub length-most : (family : Family) (samples terms : ℕ) → samples ≤ family .most → terms ≤ mostTerms
+    → fileLength family samples terms ≤ fileLength family (family .most) mostTerms
+unfolding fileLength termsDistance
+length-most family samples terms short few = omega (arith, mul-le-mul-left (family .bytes) short)
 
 -- the listed conditions, as facts
-pub record Laid (f : List ℕ) : Type 0 where
-  pub long-enough : 12 ≤ length f
-  pub short-enough : length f ≤ 33032
-  pub mark : wordAt f (length f - 2) ≡ 0x4653
-  pub to-terms : termsBack f ≡ 12 + 2 * termCount f
+pub record Laid (family : Family) (f : List ℕ) : Type 0 where
+  pub long-enough : trailerBytes ≤ length f
+  pub short-enough : length f ≤ fileLength family (family .most) mostTerms
+  pub mark : wordAt f (length f - wordBytes) ≡ family .mark
+  pub to-terms : termsBack f ≡ termsDistance (termCount f)
   pub to-samples : samplesBack f ≡ length f
   pub in-order : termsBack f ≤ samplesBack f
-  pub even : (samplesBack f - termsBack f) % 2 ≡ 0
+  pub whole-samples : (samplesBack f - termsBack f) % family .bytes ≡ 0
 
-pub well-laid : (f : List ℕ) → laidWell f ≡ true → Laid f
-unfolding laidWell sized marked pointsAtTerms pointsAtSamples
-well-laid f e =
-    let s = leb 12 (length f) && leb (length f) 33032 in
-    let m = eqb (wordAt f (length f - 2)) 0x4653 in
-    let t = eqb (termsBack f) (12 + 2 * termCount f) in
-    let d = eqb (samplesBack f) (length f) && leb (termsBack f) (samplesBack f) in
-    let front = and-left (s && m && t) _ e in
-    let back = and-right (s && m && t) _ e in
-    let size = and-left s m (and-left (s && m) t front) in
-    record {
-      long-enough = leb-true _ _ (and-left _ _ size);
-      short-enough = leb-true _ _ (and-right (leb 12 (length f)) _ size);
-      mark = eqb-true _ _ (and-right s m (and-left (s && m) t front));
-      to-terms = eqb-true _ _ (and-right (s && m) t front);
-      to-samples = eqb-true _ _ (and-left _ _ (and-left d _ back));
-      in-order = leb-true _ _ (and-right (eqb (samplesBack f) (length f)) _ (and-left d _ back));
-      even = eqb-true _ _ (and-right d _ back);
-    }
+-- where nothing is refused, the condition holds
+holds : (b : Bool) (n p : ℕ) → refuseIf (not b) n p ≡ Fine → b ≡ true
+holds b n p e = not-false b (refuse-no (not b) n p e)
 
-pub laid-well : (f : List ℕ) → Laid f → laidWell f ≡ true
-unfolding laidWell sized marked pointsAtTerms pointsAtSamples
-laid-well f l = simp (le-leb _ _ (l .long-enough), le-leb _ _ (l .short-enough), eq-eqb _ _ (l .mark), eq-eqb _ _ (l .to-terms), eq-eqb _ _ (l .to-samples), le-leb _ _ (l .in-order), eq-eqb _ _ (l .even))
+module _ (family : Family) (f : List ℕ) where
+  pub well-laid : layoutChecked family f ≡ Fine → Laid family f
+  unfolding layoutChecked sized marked pointsAtTerms pointsAtSamples
+  well-laid e =
+      let a = or-else-fine _ _ e in
+      let b = or-else-fine _ _ (a .1) in
+      let c = or-else-fine _ _ (b .1) in
+      let size = holds (sized family f) _ _ (a .0) in
+      let distance = holds (pointsAtSamples family f) _ _ (c .1) in
+      let front = and-left (eqb (samplesBack f) (length f) && leb (termsBack f) (samplesBack f)) _ distance in
+      record {
+        long-enough = leb-true _ _ (and-left _ _ size);
+        short-enough = leb-true _ _ (and-right (leb trailerBytes (length f)) _ size);
+        mark = eqb-true _ _ (holds (marked family f) _ _ (b .0));
+        to-terms = eqb-true _ _ (holds (pointsAtTerms f) _ _ (c .0));
+        to-samples = eqb-true _ _ (and-left _ _ front);
+        in-order = leb-true _ _ (and-right (eqb (samplesBack f) (length f)) _ front);
+        whole-samples = eqb-true _ _ (and-right (eqb (samplesBack f) (length f) && leb (termsBack f) (samplesBack f)) _ distance);
+      }
+
+  pub laid-well : Laid family f → layoutChecked family f ≡ Fine
+  unfolding layoutChecked sized marked pointsAtTerms pointsAtSamples
+  laid-well l =
+      simp (
+        le-leb _ _ (l .long-enough),
+        le-leb _ _ (l .short-enough),
+        eq-eqb _ _ (l .mark),
+        eq-eqb _ _ (l .to-terms),
+        eq-eqb _ _ (l .to-samples),
+        le-leb _ _ (l .in-order),
+        eq-eqb _ _ (l .whole-samples),
+      )
+
+  -- a file that is long enough for its trailer
+  pub sized-long : sized family f ≡ true → trailerBytes ≤ length f
+  unfolding sized
+  sized-long e = leb-true _ _ (and-left _ _ e)
 
 -- ---- where the samples and the terms lie
 
 pub length-words : (f : List ℕ) (at n : ℕ) → length (wordsFrom f at n) ≡ n
 unfolding wordsFrom
-length-words f at n = length-tab n (λ i. wordAt f (at + 2 * i))
+length-words f at n = length-tab n (λ i. wordAt f (at + wordBytes * i))
 
-pub samples-counted : (f : List ℕ) → length (fileSamples f) ≡ (samplesBack f - termsBack f) / 2
+pub samples-counted : (f : List ℕ) → length (fileSamples f) ≡ sampleCount countsFamily f
 unfolding fileSamples
 samples-counted f = length-words f _ _
 
@@ -61,22 +97,20 @@ pub terms-counted : (f : List ℕ) → length (fileTerms f) ≡ termCount f
 unfolding fileTerms
 terms-counted f = length-words f _ _
 
-module _ (f : List ℕ) (l : Laid f) where
+module _ (family : Family) (f : List ℕ) (l : Laid family f) where
   -- the samples, the terms and the trailer are the whole file
-  pub whole : length f ≡ fileLength (length (fileSamples f)) (length (fileTerms f))
+  pub whole : length f ≡ fileLength family (sampleCount family f) (termCount f)
+  unfolding fileLength sampleCount
+  whole =
+      let parts = div-add-mod (samplesBack f - termsBack f) (family .bytes) in
+      omega (arith, parts, l .whole-samples, l .in-order, l .to-samples, l .to-terms)
+
+  -- the terms follow the samples
+  pub first-term : length f - termsBack f ≡ family .bytes * sampleCount family f
   unfolding fileLength
-  whole = omega (arith, samples-counted f, terms-counted f)
+  first-term = omega (arith, whole, l .to-terms)
 
-  -- the samples begin the file
-  pub samples-lie : fileSamples f ≡ wordsFrom f 0 (length (fileSamples f))
-  unfolding fileSamples
-  samples-lie =
-      let z : length f - samplesBack f ≡ 0 = omega arith in
-      rw (length-words f (length f - samplesBack f) ((samplesBack f - termsBack f) / 2), z)
-
-  -- the terms follow
-  pub terms-lie : fileTerms f ≡ wordsFrom f (2 * length (fileSamples f)) (length (fileTerms f))
-  unfolding fileTerms
-  terms-lie =
-      let z : length f - termsBack f ≡ 2 * length (fileSamples f) = omega (arith, samples-counted f) in
-      rw (length-words f (length f - termsBack f) (termCount f), z)
+-- the samples begin the file
+pub samples-lie : (f : List ℕ) → Laid countsFamily f → fileSamples f ≡ wordsFrom f 0 (sampleCount countsFamily f)
+unfolding fileSamples
+samples-lie f l = let z : length f - samplesBack f ≡ 0 = omega (arith, l .to-samples) in rw z

@@ -2,43 +2,68 @@
 -- Assumes nothing.
 use mathlib.Core.Path.{_≡_, refl, sym, ap, _∙_}
 use mathlib.Core.List.{List, [], _∷_, _++_}
-use Prim.Native.Nat.{ℕ, _+_, _*_}
+use Prim.Native.Nat.{ℕ, _-_, _*_, _≤_}
 use native.Mathlib.Omega.{arith}
 use lib.ListN.{length, length-append}
-use lib.Seq.{sets}
+use lib.Seq.{sets, length-sets}
+use Rattle.limits.specs.Limits.{wordBytes, trailerBytes}
 use Rattle.theory.proofs.Slices.{sets-next, sets-three, sets-whole}
-use Rattle.files.specs.Bytes.{twoBytes, fourBytes, inWords}
-use Rattle.files.specs.Layout.{fileLength, trailer, fileOf}
+use Rattle.files.specs.declared.Family.{Family}
+use Rattle.files.specs.Bytes.{longBytes, twoBytes, fourBytes, inWords}
+use Rattle.files.specs.Layout.{termsDistance, fileLength, trailer, fileOf}
 
--- ---- lengths
-
-pub length-in-words : (xs : List ℕ) → length (inWords xs) ≡ 2 * length xs
+pub length-in-words : (xs : List ℕ) → length (inWords xs) ≡ wordBytes * length xs
 unfolding inWords twoBytes
 length-in-words [] = refl
 length-in-words (x ∷ xs) = omega (arith, length-in-words xs)
 
-pub length-trailer : (samples terms : ℕ) → length (trailer samples terms) ≡ 12
-unfolding trailer fourBytes twoBytes
-length-trailer samples terms = refl
+module _ (family : Family) where
+  pub length-trailer : (samples terms : ℕ) → length (trailer family samples terms) ≡ trailerBytes
+  unfolding trailer fourBytes twoBytes
+  length-trailer samples terms = refl
 
-pub length-file : (form scan : List ℕ) → length (fileOf form scan) ≡ fileLength (length scan) (length form)
-unfolding fileOf fileLength
-length-file form scan =
-    let t = trailer (length scan) (length form) in
-    omega (arith, length-append (inWords scan ++ inWords form) t, length-append (inWords scan) (inWords form), length-in-words scan, length-in-words form, length-trailer (length scan) (length form))
+  -- the file of samples that take the family's bytes
+  pub length-file : (stored : List ℕ) (samples : ℕ) (form : List ℕ) → length stored ≡ family .bytes * samples
+      → length (fileOf family stored samples form) ≡ fileLength family samples (length form)
+  unfolding fileOf fileLength termsDistance
+  length-file stored samples form e =
+      let t = trailer family samples (length form) in
+      let joined = length-append (stored ++ inWords form) t in
+      omega (arith, joined, length-append stored (inWords form), e, length-in-words form, length-trailer samples (length form))
 
--- ---- what the writer's stores make
+  -- ---- what the writer's stores make
 
-pub trailer-stored : (l : List ℕ) (at samples terms : ℕ) → sets (sets (sets (sets l at (fourBytes (fileLength samples terms))) (at + 4) (fourBytes (12 + 2 * terms))) (at + 8) (twoBytes terms)) (at + 10) (twoBytes 0x4653) ≡ sets l at (trailer samples terms)
-unfolding trailer fourBytes twoBytes
-trailer-stored l at samples terms =
-    let back = fourBytes (fileLength samples terms) in
-    let to-terms = fourBytes (12 + 2 * terms) in
-    ap (λ (m : List ℕ). sets m (at + 10) (twoBytes 0x4653)) (sets-three l at (at + 4) (at + 8) back to-terms (twoBytes terms) refl (omega arith))
-    ∙ sets-next l at (at + 10) (back ++ to-terms ++ twoBytes terms) (twoBytes 0x4653) refl
+  pub trailer-stored : (l : List ℕ) (end samples terms : ℕ) → trailerBytes ≤ end
+      → sets (sets (sets (sets l (end - trailerBytes) (fourBytes (fileLength family samples terms)))
+      (end - (trailerBytes - longBytes)) (fourBytes (termsDistance terms)))
+      (end - (2 * wordBytes)) (twoBytes terms))
+      (end - wordBytes) (twoBytes (family .mark))
+      ≡ sets l (end - trailerBytes) (trailer family samples terms)
+  unfolding trailer fourBytes twoBytes
+  trailer-stored l end samples terms h =
+      let at = end - trailerBytes in
+      let back = fourBytes (fileLength family samples terms) in
+      let to-terms = fourBytes (termsDistance terms) in
+      let mark = twoBytes (family .mark) in
+      let terms-at = end - (trailerBytes - longBytes) in
+      let count-at = end - (2 * wordBytes) in
+      let front = sets-three l at terms-at count-at back to-terms (twoBytes terms) (omega arith) (omega arith) in
+      ap (λ (m : List ℕ). sets m (end - wordBytes) mark) front
+      ∙ sets-next l at (end - wordBytes) (back ++ to-terms ++ twoBytes terms) mark (omega arith)
 
-pub file-stored : (l form scan : List ℕ) → length l ≡ fileLength (length scan) (length form) → sets (sets (sets l 0 (inWords scan)) (2 * length scan) (inWords form)) (2 * length scan + 2 * length form) (trailer (length scan) (length form)) ≡ fileOf form scan
-unfolding fileOf
-file-stored l form scan e =
-    sets-three l 0 (2 * length scan) (2 * length scan + 2 * length form) (inWords scan) (inWords form) _ (omega (arith, length-in-words scan)) (omega (arith, length-in-words form))
-    ∙ sets-whole l (fileOf form scan) (length-file form scan ∙ sym e)
+  -- the samples and the terms, stored from the start on
+  abbrev contents-in : List ℕ → List ℕ → ℕ → List ℕ → List ℕ
+  contents-in l stored samples form = sets (sets l 0 stored) (family .bytes * samples) (inWords form)
+
+  pub file-stored : (l stored : List ℕ) (samples : ℕ) (form : List ℕ) → length stored ≡ family .bytes * samples
+      → length l ≡ fileLength family samples (length form)
+      → sets (contents-in l stored samples form)
+      (length (contents-in l stored samples form) - trailerBytes) (trailer family samples (length form))
+      ≡ fileOf family stored samples form
+  unfolding fileOf fileLength termsDistance
+  file-stored l stored samples form e h =
+      let start = family .bytes * samples in
+      let long = length-sets (sets l 0 stored) start (inWords form) ∙ length-sets l 0 stored in
+      let words = length-in-words form in
+      sets-three l 0 start _ stored (inWords form) _ (omega (arith, e)) (omega (arith, words, long))
+      ∙ sets-whole l (fileOf family stored samples form) (length-file stored samples form e ∙ sym h)

@@ -11,6 +11,7 @@ use lib.Seq.{drop-cons, getD-append-add, ext-getD}
 use Rattle.theory.specs.Lists.{tab}
 use Rattle.theory.proofs.Lists.{tab-suc, getD-tab}
 use Rattle.theory.proofs.Slices.{parts}
+use Rattle.limits.specs.Limits.{wordBytes}
 use Rattle.files.specs.Bytes.{twoBytes, fourBytes, inWords, wordAt, longAt, wordsFrom}
 use Rattle.files.proofs.Layouts.{length-words}
 
@@ -50,7 +51,7 @@ words-back p xs q =
     ext-getD 0 (wordsFrom f (length p) (length xs)) xs len
     (λ i h.
     let l : i < length xs = omega arith in
-    getD-tab 0 (length xs) (λ k. wordAt f (length p + 2 * k)) i l ∙ word-behind p (inWords xs ++ q) (2 * i) ∙ word-in xs q i l)
+    getD-tab 0 (length xs) (λ k. wordAt f (length p + wordBytes * k)) i l ∙ word-behind p (inWords xs ++ q) (2 * i) ∙ word-in xs q i l)
 
 -- ---- bytes that are read are written as themselves
 
@@ -78,7 +79,7 @@ module _ (f : List ℕ) (ok : Bytes f) where
   unfolding wordsFrom tab inWords twoBytes
   words-bytes at zero h = refl
   words-bytes at (suc n) h =
-      let w : ℕ → ℕ = λ i. wordAt f (at + 2 * i) in
+      let w : ℕ → ℕ = λ i. wordAt f (at + wordBytes * i) in
       let e : 2 * n + 2 ≡ 2 * suc n = omega arith in
       ap inWords (tab-suc n w)
       ∙ in-words-append (tab n w) (w n ∷ [])

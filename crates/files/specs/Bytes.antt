@@ -2,7 +2,12 @@
 use Prim.Native.Nat.{ℕ, _+_, _*_, _/_, _%_}
 use mathlib.Core.List.{List, [], _∷_, _++_}
 use lib.ListN.{getD}
+use Rattle.limits.specs.Limits.{wordBytes}
 use Rattle.theory.specs.Lists.{tab}
+
+-- a distance in the trailer is a number of two words
+abbrev pub longBytes : ℕ
+longBytes = 2 * wordBytes
 
 -- ---- what is written
 
@@ -27,8 +32,8 @@ wordAt f at = getD f at 0 + 256 * getD f (at + 1) 0
 
 -- the number that four bytes from a place on are
 unfoldable pub longAt : List ℕ → ℕ → ℕ
-longAt f at = wordAt f at + 65536 * wordAt f (at + 2)
+longAt f at = wordAt f at + 65536 * wordAt f (at + wordBytes)
 
 -- the n numbers, two bytes each, from a place on
 unfoldable pub wordsFrom : List ℕ → ℕ → ℕ → List ℕ
-wordsFrom f at n = tab n (λ i. wordAt f (at + 2 * i))
+wordsFrom f at n = tab n (λ i. wordAt f (at + wordBytes * i))

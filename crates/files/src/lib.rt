@@ -1,22 +1,30 @@
 // The scan file: samples, terms, and a trailer that points back from the file's end.
 //
-// No public function has a `requires`, and nothing is assumed.
+// The layout goes by its family: how many bytes a sample takes, the mark, and the most samples. Today there is one family, that of
+// counts. No public function has a `requires`, and nothing is assumed.
+use limits::MOST_SAMPLES;
+use limits::MOST_TERMS;
+use limits::PATTERNS;
+use limits::TRAILER;
+use limits::WIDTH;
+use limits::WORD_BYTES;
 use refusals::Answer;
 use refusals::Checked;
 use refusals::Refusal;
 ghost use mathlib.Core.Path.{_≡_};
-ghost use mathlib.Core.Bool.{true};
 ghost use mathlib.Core.List.{_++_};
-ghost use Prim.Native.Nat.{_+_, _*_, _<_, _≤_, min};
+ghost use Prim.Native.Nat.{_+_, _-_, _*_, _^_, _<_, _≤_, min};
 ghost use lib.ListN.{length, drop};
 ghost use lib.Seq.{sets};
+ghost use Rattle.limits.specs.Limits.{wordBytes, width, mostSamples, mostTerms, trailerBytes};
 ghost use Rattle.refusals.specs.Refusals.{orElse};
-ghost use Rattle.refusals.specs.Limits.{scanChecked};
+ghost use Rattle.refusals.specs.Shared.{scanChecked};
 ghost use Rattle.refusals.specs.declared.Checked.the-variants.{Fine};
 ghost use Rattle.forms.specs.Check.{formChecked};
 ghost use Rattle.files.specs.Bytes.{twoBytes, fourBytes, inWords, wordAt, longAt, wordsFrom};
-ghost use Rattle.files.specs.Layout.{fileLength, trailer, fileOf, marked, pointsAtTerms, pointsAtSamples, laidWell, fileSamples, fileTerms};
-ghost use Rattle.files.specs.Files.{fileChecked, readChecked, writeChecked, WasRead, Wrote};
+ghost use Rattle.files.specs.Layout.{countsFamily, termsBack, termCount, termsDistance, pointsAtTerms, fileTerms};
+ghost use Rattle.files.specs.Layout.{fileLength, Usable, sized, pointsAtSamples, sampleCount, trailer, countsFile};
+ghost use Rattle.files.specs.Files.{layoutChecked, fileChecked, readChecked, writeChecked, Read, Write};
 
 // What a read answers: how many samples and terms the file has, or why it says no.
 pub enum ReadAnswer {
@@ -24,165 +32,229 @@ pub enum ReadAnswer {
     Refused(Refusal),
 }
 
-// ---- the layout
+// A family of scan files: the bytes that a sample takes, the word that ends a file, and the most samples of a scan.
+pub struct Family {
+    pub bytes: usize,
+    pub mark: u16,
+    pub most: usize,
+}
+
+// Scans of counts: two bytes a sample, and the mark 53 46 hex, low byte first.
+const COUNTS: Family = Family {
+    bytes: WORD_BYTES,
+    mark: 0x4653,
+    most: MOST_SAMPLES,
+};
+
+// ---- the trailer
+
+// How far from the file's end the trailer's fields begin: the sample distance, the term distance, the number of terms, the mark.
+const SAMPLES_FIELD: usize = TRAILER;
+
+const TERMS_FIELD: usize = TRAILER - 2 * WORD_BYTES;
+
+const COUNT_FIELD: usize = 2 * WORD_BYTES;
+
+const MARK_FIELD: usize = WORD_BYTES;
 
 // The number that two bytes are, low byte first.
-fn word(file: &[u8], at: usize) -> u16
+fn word_at(file: &[u8], at: usize) -> u16
     requires { ⌜ at + 1 < length (now file) ⌝ }
     ensures { λ r. ⌜ r ≡ wordAt (now (file .entry)) at ⌝ }
 {
-    (file[at] as u16) + 256 * (file[at + 1] as u16)
+    bits::word(file[at], file[at + 1])
 }
 
 // The number that four bytes are, low byte first.
-fn long(file: &[u8], at: usize) -> usize
+fn long_at(file: &[u8], at: usize) -> usize
     requires { ⌜ at + 3 < length (now file) ⌝ }
     ensures { λ r. ⌜ r ≡ longAt (now (file .entry)) at ⌝ }
 {
-    (word(file, at) as usize) + 65536 * (word(file, at + 2) as usize)
+    (word_at(file, at) as usize) + 65536 * (word_at(file, at + WORD_BYTES) as usize)
 }
 
-// Whether the file ends with its mark.
-fn is_marked(file: &[u8]) -> bool
-    requires { ⌜ 12 ≤ length (now file) ⌝ }
-    ensures { λ r. ⌜ r ≡ marked (now (file .entry)) ⌝ }
+// The distance from the file's end to the first term.
+fn terms_back(file: &[u8]) -> usize
+    requires { ⌜ trailerBytes ≤ length (now file) ⌝ }
+    ensures { λ r. ⌜ r ≡ termsBack (now (file .entry)) ⌝ }
 {
-    word(file, file.len() - 2) == 0x4653
+    long_at(file, file.len() - TERMS_FIELD)
 }
 
-// Whether the term distance is that of the number of terms: up to 65,535 of them, so it is not multiplied in 16 bits.
+// The number of terms: up to 65,535, so that it is not multiplied in 16 bits.
+fn count_terms(file: &[u8]) -> usize
+    requires { ⌜ trailerBytes ≤ length (now file) ⌝ }
+    ensures { λ r. ⌜ (r ≡ termCount (now (file .entry))) × (r < 65536) ⌝ }
+{
+    word_at(file, file.len() - COUNT_FIELD) as usize
+}
+
+// ---- the layout
+
+// The distance from a file's end to the first of so many terms.
+fn terms_distance(terms: usize) -> usize
+    requires { ⌜ termsDistance terms < 2 ^ 32 ⌝ }
+    ensures { λ r. ⌜ r ≡ termsDistance terms ⌝ }
+{
+    TRAILER + WORD_BYTES * terms
+}
+
+// The length of a file of so many samples and terms.
+fn file_length(family: Family, samples: usize, terms: usize) -> usize
+    requires { ⌜ fileLength family samples terms < 2 ^ 32 ⌝ }
+    ensures { λ r. ⌜ r ≡ fileLength family samples terms ⌝ }
+{
+    family.bytes * samples + terms_distance(terms)
+}
+
+// Whether the file is as long as one of the family can be.
+fn is_sized(family: Family, file: &[u8]) -> bool
+    requires { ⌜ Usable family ⌝ }
+    ensures { λ r. ⌜ r ≡ sized family (now (file .entry)) ⌝ }
+{
+    let longest = file_length(family, family.most, MOST_TERMS);
+    (TRAILER <= file.len()) & (file.len() <= longest)
+}
+
+// Whether the term distance is that of the number of terms.
 fn points_at_terms(file: &[u8]) -> bool
-    requires { ⌜ 12 ≤ length (now file) ⌝ }
+    requires { ⌜ trailerBytes ≤ length (now file) ⌝ }
     ensures { λ r. ⌜ r ≡ pointsAtTerms (now (file .entry)) ⌝ }
 {
-    let terms = word(file, file.len() - 4) as usize;
-    long(file, file.len() - 8) == 12 + 2 * terms
+    terms_back(file) == terms_distance(count_terms(file))
 }
 
 // Whether the sample distance is the whole file, and leaves whole samples before the terms.
-fn points_at_samples(file: &[u8]) -> bool
-    requires { ⌜ 12 ≤ length (now file) ⌝ }
-    ensures { λ r. ⌜ r ≡ pointsAtSamples (now (file .entry)) ⌝ }
+fn points_at_samples(family: Family, file: &[u8]) -> bool
+    requires { ⌜ Usable family ⌝ }
+    requires { ⌜ trailerBytes ≤ length (now file) ⌝ }
+    ensures { λ r. ⌜ r ≡ pointsAtSamples family (now (file .entry)) ⌝ }
 {
-    let samples_back = long(file, file.len() - 12);
-    let terms_back = long(file, file.len() - 8);
-    if samples_back < terms_back {
+    let to_samples = long_at(file, file.len() - SAMPLES_FIELD);
+    let to_terms = terms_back(file);
+    if to_samples < to_terms {
         return false;
     }
-    (samples_back == file.len()) & ((samples_back - terms_back) % 2 == 0)
+    (to_samples == file.len()) & ((to_samples - to_terms) % family.bytes == 0)
 }
 
-// Whether the file is laid out well.
-fn is_laid_well(file: &[u8]) -> bool
-    ensures { λ r. ⌜ r ≡ laidWell (now (file .entry)) ⌝ }
+// Refusal 11 of the layout: the length, the mark, the term distance, the sample distance.
+fn check_layout(family: Family, file: &[u8]) -> Checked
+    requires { ⌜ Usable family ⌝ }
+    ensures { λ r. ⌜ r ≡ layoutChecked family (now (file .entry)) ⌝ }
 {
-    if file.len() < 12 {
-        return false;
+    if is_sized(family, file) {
+        let mark = word_at(file, file.len() - MARK_FIELD);
+        let marked = refusals::refuse_if(mark != family.mark, refusals::LAYOUT, 0);
+        let to_terms = refusals::refuse_if(!points_at_terms(file), refusals::LAYOUT, 0);
+        let to_samples = refusals::refuse_if(!points_at_samples(family, file), refusals::LAYOUT, 0);
+        return refusals::or_else(marked, refusals::or_else(to_terms, to_samples));
     }
-    if 33032 < file.len() {
-        return false;
-    }
-    is_marked(file) & points_at_terms(file) & points_at_samples(file)
-}
-
-// The number of terms of a file that is laid out well.
-fn count_terms(file: &[u8]) -> usize
-    requires { ⌜ laidWell (now file) ≡ true ⌝ }
-    ensures { λ r. ⌜ r ≡ length (fileTerms (now (file .entry))) ⌝ }
-{
-    word(file, file.len() - 4) as usize
+    Checked::Refused(Refusal {
+        number: refusals::LAYOUT,
+        place: 0,
+    })
 }
 
 // The number of samples of a file that is laid out well.
-fn count_samples(file: &[u8]) -> usize
-    requires { ⌜ laidWell (now file) ≡ true ⌝ }
-    ensures { λ r. ⌜ r ≡ length (fileSamples (now (file .entry))) ⌝ }
+fn count_samples(family: Family, file: &[u8]) -> usize
+    requires { ⌜ Usable family ⌝ }
+    requires { ⌜ layoutChecked family (now file) ≡ Fine ⌝ }
+    ensures { λ r. ⌜ r ≡ sampleCount family (now (file .entry)) ⌝ }
 {
-    (file.len() - long(file, file.len() - 8)) / 2
+    (file.len() - terms_back(file)) / family.bytes
 }
 
 // ---- reading
 
 // Copies n words of the file, from a place on, to the start of out.
 fn copy_words(file: &[u8], at: usize, n: usize, out: &mut [u16])
-    requires { ⌜ at + 2 * n ≤ length (now file) ⌝ }
+    requires { ⌜ at + wordBytes * n ≤ length (now file) ⌝ }
     requires { ⌜ n ≤ length (now out) ⌝ }
     ensures { λ _. ⌜ now (out .exit) ≡ wordsFrom (now (file .entry)) at n ++ drop n (now (out .entry)) ⌝ }
 {
     let mut i = 0;
     while i < n {
-        out[i] = word(file, at + 2 * i);
+        out[i] = word_at(file, at + WORD_BYTES * i);
         i += 1;
     }
 }
 
-// The smaller of two numbers.
-fn least(a: usize, b: usize) -> usize
-    ensures { λ r. ⌜ r ≡ min a b ⌝ }
+// n, but no more than most.
+fn cap(n: usize, most: usize) -> usize
+    ensures { λ r. ⌜ r ≡ min n most ⌝ }
 {
-    if a < b { a } else { b }
+    if n < most { n } else { most }
 }
 
-// The form check on n words of the file, from a place on. Of more than 513 words the first 513 decide: terms that
-// rise and are below 512 are at most 512.
+// More words than any form has terms: terms that rise and are patterns are at most as many as there are patterns, so one word more shows
+// a bad term.
+const ENOUGH: usize = PATTERNS + 1;
+
+// The form check on n words of the file, from a place on. Of more words than enough the front decides.
 fn check_form(file: &[u8], at: usize, n: usize) -> Checked
-    requires { ⌜ at + 2 * n ≤ length (now file) ⌝ }
-    ensures { λ r. ⌜ r ≡ formChecked (wordsFrom (now (file .entry)) at n) ⌝ }
+    requires { ⌜ at + wordBytes * n ≤ length (now file) ⌝ }
+    ensures { λ r. ⌜ r ≡ formChecked width (wordsFrom (now (file .entry)) at n) ⌝ }
 {
-    let mut terms = [0u16; 513];
-    let few = least(n, 513);
+    let mut terms = [0u16; ENOUGH];
+    let few = cap(n, ENOUGH);
     copy_words(file, at, few, &mut terms);
-    forms::check(&terms[..few])
+    forms::check(WIDTH, &terms[..few])
 }
 
 // What a file that is laid out well holds: its terms are judged where they lie, then its samples are counted.
-fn check_contents(file: &[u8]) -> Checked
-    requires { ⌜ laidWell (now file) ≡ true ⌝ }
-    ensures { λ r. ⌜ r ≡ orElse (formChecked (fileTerms (now (file .entry)))) (scanChecked (length (fileSamples (now (file .entry))))) ⌝ }
+fn check_contents(family: Family, file: &[u8]) -> Checked
+    requires { ⌜ Usable family ⌝ }
+    requires { ⌜ layoutChecked family (now file) ≡ Fine ⌝ }
+    ensures { λ r. ⌜ r ≡ orElse (formChecked width (fileTerms (now (file .entry))))
+        (scanChecked (family .most) (sampleCount family (now (file .entry)))) ⌝ }
 {
-    let samples = count_samples(file);
+    let first_term = file.len() - terms_back(file);
     refusals::or_else(
-        check_form(file, 2 * samples, count_terms(file)),
-        refusals::check_scan(samples),
+        check_form(file, first_term, count_terms(file)),
+        refusals::check_scan(family.most, count_samples(family, file)),
     )
 }
 
 // What a file by itself is refused for: 11 where it is badly laid out, 7 and 8 of its terms, and 9 of its samples, in
 // this order.
-fn check_file(file: &[u8]) -> Checked
-    ensures { λ r. ⌜ r ≡ fileChecked (now (file .entry)) ⌝ }
+fn check_file(family: Family, file: &[u8]) -> Checked
+    requires { ⌜ Usable family ⌝ }
+    ensures { λ r. ⌜ r ≡ fileChecked family (now (file .entry)) ⌝ }
 {
-    if is_laid_well(file) {
-        return check_contents(file);
+    let layout = check_layout(family, file);
+    if let Checked::Refused(refusal) = layout {
+        return Checked::Refused(refusal);
     }
-    Checked::Refused(Refusal::Layout)
+    check_contents(family, file)
 }
 
 // Whether a read is to be refused, with so many elements lent for samples and for terms.
-fn admit_read(file: &[u8], samples_lent: usize, terms_lent: usize) -> Checked
-    ensures { λ r. ⌜ r ≡ readChecked (now (file .entry)) «samples_lent» «terms_lent» ⌝ }
+fn admit_read(family: Family, file: &[u8], samples_lent: usize, terms_lent: usize) -> Checked
+    requires { ⌜ Usable family ⌝ }
+    ensures { λ r. ⌜ r ≡ readChecked family (now (file .entry)) «samples_lent» «terms_lent» ⌝ }
 {
-    let checked = check_file(file);
+    let checked = check_file(family, file);
     if let Checked::Refused(refusal) = checked {
         return Checked::Refused(refusal);
     }
-    let samples = count_samples(file);
-    let terms = count_terms(file);
+    let samples = count_samples(family, file);
     refusals::or_else(
-        refusals::check_room(terms, terms_lent),
-        refusals::refuse_if(samples_lent < samples, Refusal::OutputLength(samples)),
+        refusals::check_room(count_terms(file), terms_lent),
+        refusals::refuse_if(samples_lent < samples, refusals::OUTPUT_LENGTH, samples),
     )
 }
 
-// Copies the samples and the terms of a file that can be read to slices that have room for them.
+// Copies the samples and the terms of a file of counts that can be read to slices that have room for them.
 fn fill_slices(file: &[u8], samples: &mut [u16], terms: &mut [u16]) -> ReadAnswer
-    requires { ⌜ readChecked (now file) (length (now samples)) (length (now terms)) ≡ Fine ⌝ }
-    ensures { λ r. ⌜ WasRead (now (file .entry)) (now (samples .entry)) (now (samples .exit)) (now (terms .entry)) (now (terms .exit)) r ⌝ }
+    requires { ⌜ readChecked countsFamily (now file) (length (now samples)) (length (now terms)) ≡ Fine ⌝ }
+    ensures { λ r. ⌜ Read (now (file .entry))
+        (now (samples .entry)) (now (samples .exit)) (now (terms .entry)) (now (terms .exit)) r ⌝ }
 {
-    let samples_in = count_samples(file);
+    let samples_in = count_samples(COUNTS, file);
     let terms_in = count_terms(file);
     copy_words(file, 0, samples_in, samples);
-    copy_words(file, 2 * samples_in, terms_in, terms);
+    copy_words(file, WORD_BYTES * samples_in, terms_in, terms);
     ReadAnswer::Read {
         samples: samples_in,
         terms: terms_in,
@@ -194,9 +266,10 @@ fn fill_slices(file: &[u8], samples: &mut [u16], terms: &mut [u16]) -> ReadAnswe
 // and 8 of its terms, 9 of its samples, 6 where fewer elements are lent for terms, and 10 where fewer are lent for
 // samples, in this order; after a refusal neither slice has changed.
 pub fn read(file: &[u8], samples: &mut [u16], terms: &mut [u16]) -> ReadAnswer
-    ensures { λ r. ⌜ WasRead (now (file .entry)) (now (samples .entry)) (now (samples .exit)) (now (terms .entry)) (now (terms .exit)) r ⌝ }
+    ensures { λ r. ⌜ Read (now (file .entry))
+        (now (samples .entry)) (now (samples .exit)) (now (terms .entry)) (now (terms .exit)) r ⌝ }
 {
-    let checked = admit_read(file, samples.len(), terms.len());
+    let checked = admit_read(COUNTS, file, samples.len(), terms.len());
     if let Checked::Refused(refusal) = checked {
         return ReadAnswer::Refused(refusal);
     }
@@ -220,64 +293,71 @@ fn put_long(number: u32, at: usize, out: &mut [u8])
     ensures { λ _. ⌜ now (out .exit) ≡ sets (now (out .entry)) at (fourBytes number) ⌝ }
 {
     put_word((number % 65536) as u16, at, out);
-    put_word((number / 65536) as u16, at + 2, out);
+    put_word((number / 65536) as u16, at + WORD_BYTES, out);
 }
 
 // Puts numbers one after another, two bytes each.
 fn put_words(numbers: &[u16], at: usize, out: &mut [u8])
-    requires { ⌜ at + 2 * length (now numbers) ≤ length (now out) ⌝ }
+    requires { ⌜ at + wordBytes * length (now numbers) ≤ length (now out) ⌝ }
     ensures { λ _. ⌜ now (out .exit) ≡ sets (now (out .entry)) at (inWords (now (numbers .entry))) ⌝ }
 {
     let mut i = 0;
     while i < numbers.len() {
-        put_word(numbers[i], at + 2 * i, out);
+        put_word(numbers[i], at + WORD_BYTES * i, out);
         i += 1;
     }
 }
 
-// Puts the trailer of a file of so many samples and terms.
-fn put_trailer(samples: usize, terms: usize, at: usize, out: &mut [u8])
-    requires { ⌜ (samples ≤ 16384) × (terms ≤ 126) ⌝ }
-    requires { ⌜ at + 12 ≤ length (now out) ⌝ }
-    ensures { λ _. ⌜ now (out .exit) ≡ sets (now (out .entry)) at (trailer samples terms) ⌝ }
+// Puts the trailer of a file of so many samples and terms: the two distances, the number of terms, and the mark.
+fn put_trailer(family: Family, samples: usize, terms: usize, out: &mut [u8])
+    requires { ⌜ (terms ≤ mostTerms) × (fileLength family samples terms < 2 ^ 32) ⌝ }
+    requires { ⌜ trailerBytes ≤ length (now out) ⌝ }
+    ensures { λ _. ⌜ now (out .exit)
+        ≡ sets (now (out .entry)) (length (now (out .entry)) - trailerBytes) (trailer family samples terms) ⌝ }
 {
-    put_long((2 * samples + 2 * terms + 12) as u32, at, out);
-    put_long((12 + 2 * terms) as u32, at + 4, out);
-    put_word(terms as u16, at + 8, out);
-    put_word(0x4653, at + 10, out);
+    let end = out.len();
+    let back = file_length(family, samples, terms);
+    let distance = terms_distance(terms);
+    put_long(back as u32, end - SAMPLES_FIELD, out);
+    put_long(distance as u32, end - TERMS_FIELD, out);
+    put_word(terms as u16, end - COUNT_FIELD, out);
+    put_word(family.mark, end - MARK_FIELD, out);
 }
 
-// Whether a write is to be refused, with so many bytes lent. The length needed is only computed of a form and a scan
-// that are allowed, so that it cannot wrap.
-fn admit_write(terms: &[u16], scan: &[u16], lent: usize) -> Checked
-    ensures { λ r. ⌜ r ≡ writeChecked (now (terms .entry)) (now (scan .entry)) lent ⌝ }
+// Whether a write of so many samples is to be refused, with so many bytes lent. The length needed is only computed of a form and a
+// scan that are allowed, so that it cannot wrap.
+fn admit_write(family: Family, terms: &[u16], samples: usize, lent: usize) -> Checked
+    requires { ⌜ Usable family ⌝ }
+    ensures { λ r. ⌜ r ≡ writeChecked family (now (terms .entry)) samples lent ⌝ }
 {
-    let checked = refusals::or_else(forms::check(terms), refusals::check_scan(scan.len()));
+    let checked = refusals::or_else(
+        forms::check(WIDTH, terms),
+        refusals::check_scan(family.most, samples),
+    );
     if let Checked::Refused(refusal) = checked {
         return Checked::Refused(refusal);
     }
-    let needed = 2 * scan.len() + 2 * terms.len() + 12;
+    let needed = file_length(family, samples, terms.len());
     refusals::check_lent(needed, lent)
 }
 
-// Puts a whole file.
+// Puts a whole file of counts.
 fn fill_file(terms: &[u16], scan: &[u16], out: &mut [u8])
-    requires { ⌜ (length (now scan) ≤ 16384) × (length (now terms) ≤ 126) ⌝ }
-    requires { ⌜ length (now out) ≡ fileLength (length (now scan)) (length (now terms)) ⌝ }
-    ensures { λ _. ⌜ now (out .exit) ≡ fileOf (now (terms .entry)) (now (scan .entry)) ⌝ }
+    requires { ⌜ (length (now scan) ≤ mostSamples) × (length (now terms) ≤ mostTerms) ⌝ }
+    requires { ⌜ length (now out) ≡ fileLength countsFamily (length (now scan)) (length (now terms)) ⌝ }
+    ensures { λ _. ⌜ now (out .exit) ≡ countsFile (now (terms .entry)) (now (scan .entry)) ⌝ }
 {
-    let first_term = 2 * scan.len();
     put_words(scan, 0, out);
-    put_words(terms, first_term, out);
-    put_trailer(scan.len(), terms.len(), first_term + 2 * terms.len(), out);
+    put_words(terms, WORD_BYTES * scan.len(), out);
+    put_trailer(COUNTS, scan.len(), terms.len(), out);
 }
 
 // Writes the file of a form and a scan to out, and answers its length. Refuses 7 and 8 of the terms, 9 of the scan, and
 // 10 where out is not exactly as long as the file, in this order; after a refusal out has not changed.
 pub fn write(terms: &[u16], scan: &[u16], out: &mut [u8]) -> Answer
-    ensures { λ r. ⌜ Wrote (now (terms .entry)) (now (scan .entry)) (now (out .entry)) (now (out .exit)) r ⌝ }
+    ensures { λ r. ⌜ Write (now (terms .entry)) (now (scan .entry)) (now (out .entry)) (now (out .exit)) r ⌝ }
 {
-    let checked = admit_write(terms, scan, out.len());
+    let checked = admit_write(COUNTS, terms, scan.len(), out.len());
     if let Checked::Refused(refusal) = checked {
         return Answer::Refused(refusal);
     }

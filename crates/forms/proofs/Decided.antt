@@ -6,5 +6,5 @@ use mathlib.Core.List.{List}
 use Rattle.refusals.specs.declared.Checked.{Checked}
 use Rattle.forms.specs.Check.{formChecked}
 
-pub check-decided : (ts : List ℕ) (a b : Checked) → a ≡ formChecked ts → b ≡ formChecked ts → a ≡ b
-check-decided ts a b p q = p ∙ sym q
+pub check-decided : (w : ℕ) (ts : List ℕ) (a b : Checked) → a ≡ formChecked w ts → b ≡ formChecked w ts → a ≡ b
+check-decided w ts a b p q = p ∙ sym q

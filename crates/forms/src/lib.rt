@@ -1,20 +1,27 @@
-// Forms: the check that a list of terms is one.
+// Forms: the check that a list of terms is one, over a window of any width.
 //
 // No public function has a `requires`, and nothing is assumed.
+use limits::MOST_TERMS;
 use refusals::Checked;
 use refusals::Refusal;
 ghost use mathlib.Core.Path.{_≡_};
-ghost use Prim.Native.Nat.{_<_};
+ghost use Prim.Native.Nat.{_<_, _^_};
+ghost use lib.Dec.{leb};
 ghost use lib.ListN.{length};
-ghost use Rattle.theory.specs.Sets.{within};
 ghost use Rattle.theory.specs.Forms.{containsEarlier, isBad};
 ghost use Rattle.forms.specs.Check.{termsChecked, formChecked};
 
-// Whether every position of a is one of b.
-pub fn is_within(a: u16, b: u16) -> bool
-    ensures { λ r. ⌜ r ≡ within a b ⌝ }
+// A term is a number of so many bits.
+const TERM_BITS: usize = 16;
+
+// Whether a term is over every set of so many positions; none is over one of all its bits or more.
+fn is_over(width: usize, term: u16) -> bool
+    ensures { λ r. ⌜ r ≡ leb (2 ^ width) term ⌝ }
 {
-    a & b == a
+    if width < TERM_BITS {
+        return 0 < term >> width;
+    }
+    false
 }
 
 // Whether the term at i contains one before it.
@@ -25,7 +32,7 @@ fn contains_earlier(terms: &[u16], i: usize) -> bool
     let term = terms[i];
     let mut j = 0;
     while j < i {
-        if is_within(terms[j], term) {
+        if bits::is_within(terms[j], term) {
             return true;
         }
         j += 1;
@@ -34,12 +41,12 @@ fn contains_earlier(terms: &[u16], i: usize) -> bool
 }
 
 // Whether the term at i is one that refusal 7 names.
-fn is_bad(terms: &[u16], i: usize) -> bool
+fn is_bad(width: usize, terms: &[u16], i: usize) -> bool
     requires { ⌜ i < length (now terms) ⌝ }
-    ensures { λ r. ⌜ r ≡ isBad 9 (now (terms .entry)) i ⌝ }
+    ensures { λ r. ⌜ r ≡ isBad width (now (terms .entry)) i ⌝ }
 {
     let term = terms[i];
-    if 512 <= term {
+    if is_over(width, term) {
         return true;
     }
     if 0 < i {
@@ -50,27 +57,30 @@ fn is_bad(terms: &[u16], i: usize) -> bool
     contains_earlier(terms, i)
 }
 
-// Refusal 7 at the first bad term. It stops there: a list of any length costs at most 127 looks.
-fn check_terms(terms: &[u16]) -> Checked
-    ensures { λ r. ⌜ r ≡ termsChecked (now (terms .entry)) ⌝ }
+// Refusal 7 at the first bad term. It stops there: a list of any length costs at most one look more than the longest form has terms.
+fn check_terms(width: usize, terms: &[u16]) -> Checked
+    ensures { λ r. ⌜ r ≡ termsChecked width (now (terms .entry)) ⌝ }
 {
     let mut i = 0;
     while i < terms.len() {
-        if is_bad(terms, i) {
-            return Checked::Refused(Refusal::BadTerm(i));
+        if is_bad(width, terms, i) {
+            return Checked::Refused(Refusal {
+                number: refusals::BAD_TERM,
+                place: i,
+            });
         }
         i += 1;
     }
     Checked::Fine
 }
 
-// Whether a list of terms is a form. Refuses 7 at the first bad term, then 8 over 126 terms.
-pub fn check(terms: &[u16]) -> Checked
-    ensures { λ r. ⌜ r ≡ formChecked (now (terms .entry)) ⌝ }
+// Whether a list of terms is a form of a window of so many positions. Refuses 7 at the first bad term, then 8 over 126 terms.
+pub fn check(width: usize, terms: &[u16]) -> Checked
+    ensures { λ r. ⌜ r ≡ formChecked width (now (terms .entry)) ⌝ }
 {
     let n = terms.len();
     refusals::or_else(
-        check_terms(terms),
-        refusals::refuse_if(126 < n, Refusal::TermCount(n)),
+        check_terms(width, terms),
+        refusals::refuse_if(MOST_TERMS < n, refusals::TERM_COUNT, n),
     )
 }

@@ -1,5 +1,5 @@
 -- What the preset call rests on, and what is shown of it.
-pub mod Wide
+pub mod Nearest
 pub mod Rule
 pub mod Median
 pub mod Given

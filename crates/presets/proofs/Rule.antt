@@ -3,43 +3,50 @@
 use mathlib.Core.Path.{_≡_, refl, sym, subst}
 use mathlib.Core.Bool.{Bool, not}
 use mathlib.Core.List.{List, List·Memᴰ}
-use Prim.Native.Nat.{ℕ, _<_, zero-le}
+use Prim.Native.Nat.{ℕ, _^_, _<_, zero-le}
 use native.Mathlib.Omega.{arith}
 use lib.ListN.{length, getD}
 use borrow.Author.Tests.{not-true}
-use Rattle.theory.specs.Lists.{any, keep, from, first, some}
-use Rattle.theory.specs.Sets.{has, with-place}
+use Rattle.limits.specs.Limits.{presets}
+use Rattle.theory.specs.Lists.{any, keep, from, first, anyBelow}
+use Rattle.theory.specs.Sets.{has, with-position}
 use Rattle.theory.specs.Forms.{Positive}
 use Rattle.theory.specs.Tables.{slips}
 use Rattle.theory.proofs.Lists.{keep-mem, keep-at, from-mem, index-mem}
 use Rattle.theory.proofs.Keeps.{keep-rises}
 use Rattle.theory.proofs.Tables.{fine-positive, positive-fine}
-use Rattle.presets.specs.Presets.{presetTables}
+use Rattle.presets.specs.Presets.{three, threePatterns, presetTables}
 
 -- no pattern of three samples on which one more turns 1 to 0
 steady : ℕ → Bool
-steady t = not (some (slips 3 (has t)) 8)
+steady t = not (anyBelow (slips three (has t)) threePatterns)
 
--- the test, over all 256
-rule : keep steady (from 0 256) ≡ presetTables
-unfolding presetTables steady keep from some first slips any has with-place
+-- there are so many 8-bit tables
+abbrev pub eightBitTables : ℕ
+eightBitTables = 2 ^ threePatterns
+
+-- the test, over all of them
+rule : keep steady (from 0 eightBitTables) ≡ presetTables
+unfolding presetTables steady keep from anyBelow first slips any has with-position
 rule = refl
 
 -- ---- what it says
 
 -- the tables ascend
-pub ascending : (i j : ℕ) → i < j → j < 20 → getD presetTables i 0 < getD presetTables j 0
+pub ascending : (i j : ℕ) → i < j → j < presets → getD presetTables i 0 < getD presetTables j 0
 unfolding presetTables
-ascending i j l h = subst (λ (ts : List ℕ). j < length ts → getD ts i 0 < getD ts j 0) rule (keep-rises steady 0 256 i j l) h
+ascending i j l h = subst (λ (ts : List ℕ). j < length ts → getD ts i 0 < getD ts j 0) rule (keep-rises steady 0 eightBitTables i j l) h
 
 -- each is positive on three samples
-pub entry-positive : (i : ℕ) → i < 20 → Positive 3 (has (getD presetTables i 0))
+pub entry-positive : (i : ℕ) → i < presets → Positive three (has (getD presetTables i 0))
 unfolding presetTables steady
 entry-positive i l =
     let m = subst (λ (ts : List ℕ). List·Memᴰ (getD presetTables i 0) ts) (sym rule) (index-mem 0 presetTables i l) in
-    fine-positive 3 (has (getD presetTables i 0)) (not-true _ (keep-at steady (from 0 256) m .1))
+    fine-positive three (has (getD presetTables i 0)) (not-true _ (keep-at steady (from 0 eightBitTables) m .1))
 
 -- every positive one stands there
-pub complete : (t : ℕ) → t < 256 → Positive 3 (has t) → List·Memᴰ t presetTables
+pub complete : (t : ℕ) → t < eightBitTables → Positive three (has t) → List·Memᴰ t presetTables
 unfolding steady
-complete t l pos = subst (λ (ts : List ℕ). List·Memᴰ t ts) rule (keep-mem steady (from-mem 0 256 zero-le (omega arith)) (rw (positive-fine 3 (has t) pos)))
+complete t l pos =
+    subst (λ (ts : List ℕ). List·Memᴰ t ts) rule
+    (keep-mem steady (from-mem 0 eightBitTables zero-le (omega arith)) (rw (positive-fine three (has t) pos)))

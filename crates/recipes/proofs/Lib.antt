@@ -1,7 +1,7 @@
--- The laws of recipes: what a decoded step is, what an accepted recipe goes through, and the reach that each step leaves.
+-- The laws of recipes: what a decoded step is, a recipe's plan, the reach that each step leaves, and what an accepted recipe goes through.
 pub mod Decodes
-pub mod Accepted
-pub mod Offsets
+pub mod Plans
 pub mod Reaches
-pub mod Walks
+pub mod Accepted
+pub mod Turns
 pub mod Decided

@@ -1,98 +1,113 @@
--- Document 01's column "Reach" follows from the definition of a plan's reach, and a plan in reach has small bounds.
+-- The machine on reaches: a plan's reach is that of the offsets that it reads, and each step leaves the reach of document 01's column.
 -- Assumes nothing.
 use mathlib.Core.Path.{_≡_, refl, sym, ap, ap₂, _∙_}
 use mathlib.Core.Bool.{true}
-use Prim.Native.Nat.{ℕ, _≤_}
+use mathlib.Core.List.{List, _∷_}
+use mathlib.Core.Option.{Option, some}
+use Prim.Native.Nat.{ℕ, zero, suc, _-_, _≤_, _<_}
 use native.Mathlib.Omega.{arith}
 use lib.IntN.{ℤ, pos, negsuc, negℤ, _+ℤ_, _-ℤ_, +ℤ-assoc, +ℤ-comm, negℤ-+ℤ, negℤ-negℤ}
+use lib.ListN.{length}
 use lib.Signed.{leZ, mag}
-use borrow.Author.Tests.{leb-true}
-use Rattle.theory.specs.Orders.{ints}
-use Rattle.theory.specs.Signals.{row, nine}
-use Rattle.theory.specs.Plans.{Plan, scan, upper, lower, leftmost, rightmost, lo, hi}
-use Rattle.theory.specs.Recipes as theory
-use Rattle.theory.specs.Recipes.{signal, one, join, meet, offsets, eroded, dilated, on-one, plans}
+use borrow.Author.Tests.{leb-true, lt-ltb}
+use Rattle.limits.specs.Limits.{reach, mostSignals}
+use Rattle.theory.specs.Signals.{window, offsets}
+use Rattle.theory.specs.Plans.{Plan, scan, near, larger-of, smaller-of, lo, hi}
 use Rattle.theory.proofs.Tests.{and-left, and-right}
-use Rattle.theory.proofs.Plans.{lo-hi}
 use Rattle.theory.proofs.Offsets.{leftmost-neg, rightmost-neg}
 use Rattle.recipes.specs.declared.Reach.{Reach}
 use Rattle.recipes.specs.declared.Step.{Step}
 use Rattle.recipes.specs.declared.Step.the-variants.{Signal, Erode, Dilate, Open, Close, Rank, Median, Larger, Smaller}
-use Rattle.recipes.specs.Steps.{meant}
-use Rattle.recipes.specs.Reaches.{reachOf, stays, Little, minOf, maxOf, erodedReach, dilatedReach, openedReach, joinedReach, taken, reachLeft}
-use Rattle.recipes.specs.Judge.{inReach}
-
--- ---- the column, row by row
-
--- the plan that a step makes of those that it takes: e, and f that was added after it
-abbrev pub made : theory.Step → Plan → Plan → Plan
-made signal e f = scan
-made (one c) e f = on-one nine plans c e
-made join e f = upper e f
-made meet e f = lower e f
+use Rattle.recipes.specs.Machine.{added, replaced, joined, eroded, dilated, rankedBy, act, reaches, bothReach}
+use Rattle.recipes.specs.Judge.{isNear, inReach}
+use Rattle.recipes.specs.Parts.{Little, minOf, maxOf, moved, erodedReach, dilatedReach, openedReach, taken, reachLeft}
+use Rattle.recipes.proofs.Plans.{fold}
 
 -- two reaches with the same ends
 pub reach-by : {l l′ h h′ : ℤ} → l ≡ l′ → h ≡ h′ → _≡_ {A = Reach} (record { lo = l; hi = h }) (record { lo = l′; hi = h′ })
 reach-by p q = ap₂ {C = Reach} (λ l h. record { lo = l; hi = h }) p q
 
--- two moves of an end, one after the other, are one
-moved-twice : (x y z : ℤ) → x +ℤ (y +ℤ z) ≡ z +ℤ (x +ℤ y)
-moved-twice x y z = sym (+ℤ-assoc x y z) ∙ +ℤ-comm (x +ℤ y) z
+-- two moves of the ends that are the same
+pub moved-by : (r : Reach) {a a′ b b′ : ℤ} → a ≡ a′ → b ≡ b′ → moved a b r ≡ moved a′ b′ r
+moved-by r p q = reach-by (ap (λ (z : ℤ). r .lo +ℤ z) p) (ap (λ (z : ℤ). r .hi +ℤ z) q)
 
-moved-back : (x y z : ℤ) → y +ℤ (x +ℤ z) ≡ z +ℤ (x +ℤ y)
-moved-back x y z = moved-twice y x z ∙ ap (λ (k : ℤ). z +ℤ k) (+ℤ-comm y x)
+-- ---- of a plan: the least and the greatest offset that it reads
+
+pub fold-reaches : (e : Plan) → fold reaches e ≡ record { lo = lo e; hi = hi e }
+unfolding fold reaches bothReach lo hi
+fold-reaches scan = refl
+fold-reaches (near p bs e) = rw (fold-reaches e) (reach-by (+ℤ-comm (lo e) _) (+ℤ-comm (hi e) _))
+fold-reaches (larger-of a b) = ap₂ bothReach (fold-reaches a) (fold-reaches b)
+fold-reaches (smaller-of a b) = ap₂ bothReach (fold-reaches a) (fold-reaches b)
+
+-- ---- of a step: the column
+
+-- an end moved twice is moved by the sum
+moved-twice : (x y z : ℤ) {w : ℤ} → y +ℤ z ≡ w → x +ℤ y +ℤ z ≡ x +ℤ w
+moved-twice x y z e = +ℤ-assoc x y z ∙ ap (λ (k : ℤ). x +ℤ k) e
 
 neg-sub : (a b : ℤ) → negℤ a +ℤ b ≡ negℤ (a -ℤ b)
 neg-sub a b = sym (negℤ-+ℤ a (negℤ b) ∙ ap (λ (z : ℤ). negℤ a +ℤ z) (negℤ-negℤ b))
 
-around-reach : (b : ℕ) (e : Plan) → _≡_ {A = Reach} (record { lo = leftmost (offsets nine b) +ℤ lo e; hi = rightmost (offsets nine b) +ℤ hi e }) (erodedReach b (reachOf e))
-unfolding reachOf erodedReach minOf maxOf
-around-reach b e = reach-by (+ℤ-comm _ (lo e)) (+ℤ-comm _ (hi e))
+module _ (B : ℕ) where
+  eroded-column : (r : Reach) → eroded reaches B r ≡ erodedReach B r
+  unfolding eroded reaches erodedReach
+  eroded-column r = refl
 
-spread-reach : (b : ℕ) (e : Plan) {l h : ℤ} → l ≡ lo e +ℤ (negℤ (maxOf b) +ℤ minOf b) → h ≡ hi e +ℤ (maxOf b -ℤ minOf b)
-    → _≡_ {A = Reach} (record { lo = l; hi = h }) (openedReach b (reachOf e))
-unfolding reachOf openedReach
-spread-reach b e p q = reach-by (p ∙ ap (λ (z : ℤ). lo e +ℤ z) (neg-sub (maxOf b) (minOf b))) q
+  ranked-column : (k : ℕ) (r : Reach) → rankedBy reaches k B r ≡ erodedReach B r
+  unfolding rankedBy reaches erodedReach
+  ranked-column k r = refl
 
--- what a step leaves has the reach that the column gives of what the step takes
-pub reach-table : (s : Step) (e f : Plan) → reachOf (made (meant s) e f) ≡ reachLeft s (reachOf e) (reachOf f)
-unfolding reachOf lo hi on-one eroded dilated plans erodedReach dilatedReach openedReach joinedReach minOf maxOf
-reach-table Signal e f = refl
-reach-table (Erode b) e f = around-reach b e
-reach-table (Dilate b) e f = rw (leftmost-neg (offsets nine b), rightmost-neg (offsets nine b)) (reach-by (+ℤ-comm _ (lo e)) (+ℤ-comm _ (hi e)))
-reach-table (Open b) e f =
-    let B = offsets nine b in
-    rw (leftmost-neg B, rightmost-neg B) (spread-reach b e (moved-twice (negℤ (rightmost B)) (leftmost B) (lo e)) (moved-back (rightmost B) (negℤ (leftmost B)) (hi e)))
-reach-table (Close b) e f =
-    let B = offsets nine b in
-    rw (leftmost-neg B, rightmost-neg B) (spread-reach b e (moved-back (negℤ (rightmost B)) (leftmost B) (lo e)) (moved-twice (rightmost B) (negℤ (leftmost B)) (hi e)))
-reach-table (Rank k b) e f = around-reach b e
-reach-table (Median b) e f = around-reach b e
-reach-table Larger e f = refl
-reach-table Smaller e f = refl
+  dilated-column : (r : Reach) → dilated reaches B r ≡ dilatedReach B r
+  unfolding dilated reaches dilatedReach
+  dilated-column r = rw (leftmost-neg (offsets window B), rightmost-neg (offsets window B))
 
--- the same of reaches that are given: what a step does not take is not read
-pub reach-made : (s : Step) (e f : Plan) (q r : Reach) → (1 ≤ taken (meant s) → q ≡ reachOf e) → (2 ≤ taken (meant s) → r ≡ reachOf f)
-    → reachLeft s q r ≡ reachOf (made (meant s) e f)
-reach-made Signal e f q r h k = sym (reach-table Signal e f)
-reach-made (Erode b) e f q r h k = ap (erodedReach b) (h (omega arith)) ∙ sym (reach-table (Erode b) e f)
-reach-made (Dilate b) e f q r h k = ap (dilatedReach b) (h (omega arith)) ∙ sym (reach-table (Dilate b) e f)
-reach-made (Open b) e f q r h k = ap (openedReach b) (h (omega arith)) ∙ sym (reach-table (Open b) e f)
-reach-made (Close b) e f q r h k = ap (openedReach b) (h (omega arith)) ∙ sym (reach-table (Close b) e f)
-reach-made (Rank n b) e f q r h k = ap (erodedReach b) (h (omega arith)) ∙ sym (reach-table (Rank n b) e f)
-reach-made (Median b) e f q r h k = ap (erodedReach b) (h (omega arith)) ∙ sym (reach-table (Median b) e f)
-reach-made Larger e f q r h k = ap₂ joinedReach (h (omega arith)) (k (omega arith)) ∙ sym (reach-table Larger e f)
-reach-made Smaller e f q r h k = ap₂ joinedReach (h (omega arith)) (k (omega arith)) ∙ sym (reach-table Smaller e f)
+  opened-column : (r : Reach) → dilated reaches B (eroded reaches B r) ≡ openedReach B r
+  unfolding erodedReach dilatedReach openedReach
+  opened-column r =
+      let m = minOf B in
+      let M = maxOf B in
+      dilated-column (eroded reaches B r) ∙ ap (dilatedReach B) (eroded-column r)
+      ∙ reach-by (moved-twice (r .lo) m (negℤ M) (+ℤ-comm m (negℤ M) ∙ neg-sub M m)) (moved-twice (r .hi) M (negℤ m) refl)
 
--- ---- the bounds of a reach
+  closed-column : (r : Reach) → eroded reaches B (dilated reaches B r) ≡ openedReach B r
+  unfolding erodedReach dilatedReach openedReach
+  closed-column r =
+      let m = minOf B in
+      let M = maxOf B in
+      eroded-column (dilated reaches B r) ∙ ap (erodedReach B) (dilated-column r)
+      ∙ reach-by (moved-twice (r .lo) (negℤ M) m (neg-sub M m)) (moved-twice (r .hi) (negℤ m) M (+ℤ-comm (negℤ m) M))
 
-between : (z : ℤ) → leZ (negsuc 3) z ≡ true → leZ z (pos 4) ≡ true → mag z ≤ 4
-between (pos n) p q = leb-true n 4 q
-between (negsuc n) p q = omega (arith, leb-true n 3 p)
+-- t signals, the last one first, above those of st: none, q, or q and then r
+abbrev pub above : ℕ → Reach → Reach → List Reach → List Reach
+above zero q r st = st
+above (suc zero) q r st = q ∷ st
+above (suc (suc t)) q r st = r ∷ q ∷ st
 
-pub reach-little : (e : Plan) → inReach e ≡ true → Little (reachOf e)
-unfolding inReach stays reachOf nine row ints
-reach-little e h =
-    let l = and-left _ _ h in
-    let u = and-right (leZ (negsuc 3) (lo e)) _ h in
-    (between (lo e) l (ints .trans (lo e) (hi e) (pos 4) (lo-hi e) u), between (hi e) (ints .trans (negsuc 3) (lo e) (hi e) l (lo-hi e)) u)
+on-top : {q r : Reach} (st : List Reach) → q ≡ r → some (q ∷ st) ≡ some (r ∷ st)
+on-top st e = ap {B = Option (List Reach)} (λ q. some (q ∷ st)) e
+
+-- the reach after each step is the column's, row by row
+pub reach-table : (s : Step) (q r : Reach) (st : List Reach) → length st < mostSignals
+    → act reaches s (above (taken s) q r st) ≡ some (reachLeft s q r ∷ st)
+unfolding act added replaced joined reaches
+reach-table Signal q r st l = rw (lt-ltb (length st) mostSignals l)
+reach-table (Erode B) q r st l = on-top st (eroded-column B q)
+reach-table (Dilate B) q r st l = on-top st (dilated-column B q)
+reach-table (Open B) q r st l = on-top st (opened-column B q)
+reach-table (Close B) q r st l = on-top st (closed-column B q)
+reach-table (Rank k B) q r st l = on-top st (ranked-column B k q)
+reach-table (Median B) q r st l = on-top st (ranked-column B _ q)
+reach-table Larger q r st l = refl
+reach-table Smaller q r st l = refl
+
+-- ---- the ends of a reach
+
+near-little : (z : ℤ) → isNear z ≡ true → mag z ≤ reach
+unfolding isNear
+near-little (pos n) h = leb-true n reach (and-right (leZ (negℤ (pos reach)) (pos n)) _ h)
+near-little (negsuc n) h = omega (arith, leb-true n (reach - 1) (and-left _ _ h))
+
+pub in-little : (r : Reach) → inReach r ≡ true → Little r
+unfolding inReach
+in-little r h = (near-little (r .lo) (and-left _ _ h), near-little (r .hi) (and-right (isNear (r .lo)) _ h))

@@ -1,81 +1,58 @@
--- Which recipes are accepted: 1; then step by step 2, 3, 4, 5; then 4 at the end. An accepted recipe leaves one plan.
-use Prim.Native.Nat.{ℕ, zero, suc, _+_, _/_, _%_}
-use mathlib.Core.Bool.{Bool, true, cond, not, _||_}
+-- Which recipes are accepted: 1; then step by step 2, 3, 4, 5; then 4 at the end.
+use Prim.Native.Nat.{ℕ, zero, suc, _+_, _*_, _/_, _%_}
+use mathlib.Core.Bool.{Bool, true, not, _&&_, _||_}
 use mathlib.Core.List.{List, [], _∷_}
 use mathlib.Core.Option.{Option, none, some}
 use lib.Dec.{ltb, eqb}
+use lib.IntN.{ℤ, pos, negℤ}
 use lib.ListN.{length}
-use Rattle.theory.specs.Signals.{nine}
-use Rattle.theory.specs.Plans.{Plan, scan}
-use Rattle.theory.specs.Recipes.{act, plans}
-use Rattle.refusals.specs.declared.Refusal.{Refusal}
-use Rattle.refusals.specs.declared.Refusal.the-variants.{RecipeLength, SignalsHeld, Reach}
+use lib.Signed.{leZ}
+use Rattle.limits.specs.Limits.{reach, stepBytes, mostSteps}
+use Rattle.refusals.specs.Refusals.{refusal, refuseIf, orElse}
 use Rattle.refusals.specs.declared.Checked.{Checked}
-use Rattle.refusals.specs.declared.Checked.the-variants as checked
+use Rattle.refusals.specs.declared.Checked.the-variants.{Refused}
 use Rattle.recipes.specs.declared.Decoded.{Decoded}
 use Rattle.recipes.specs.declared.Decoded.the-variants.{Good, Bad}
-use Rattle.recipes.specs.Steps.{stepAt, meant}
-use Rattle.recipes.specs.Reaches.{reachOf, stays}
+use Rattle.recipes.specs.declared.Reach.{Reach}
+use Rattle.recipes.specs.Steps.{stepAt}
+use Rattle.recipes.specs.Machine.{act, reaches}
 
-pub data Verdict : Type 0 where
-  accepted : Plan → Verdict
-  refused : Refusal → Verdict
+-- -4 to 4
+unfoldable pub isNear : ℤ → Bool
+isNear z = leZ (negℤ (pos reach)) z && leZ z (pos reach)
 
--- the reach lies in -4 to 4
-unfoldable pub inReach : Plan → Bool
-inReach e = stays (reachOf e)
+-- a reach lies in -4 to 4: both its ends do
+unfoldable pub inReach : Reach → Bool
+inReach r = isNear (r .lo) && isNear (r .hi)
 
--- the reach of the signal that a step leaves
-unfoldable pub topReach : List Plan → Bool
-topReach [] = true
-topReach (e ∷ st) = inReach e
+-- the last signal held is in reach
+unfoldable pub lastIn : List Reach → Bool
+lastIn [] = true
+lastIn (r ∷ st) = inReach r
 
--- after a step at place i: 4 where there is no stack, 5 where the reach leaves, and else on with the stack
-unfoldable pub onward : ℕ → Option (List Plan) → (List Plan → Verdict) → Verdict
-onward i none next = refused (SignalsHeld i)
-onward i (some st) next = cond (topReach st) (next st) (refused (Reach i))
+-- after step i: 4 where it cannot be done, 5 where its reach leaves, and else what comes next
+unfoldable pub onward : ℕ → Option (List Reach) → (List Reach → Checked) → Checked
+onward i none next = Refused (refusal 4 i)
+onward i (some st) next = orElse (refuseIf (not (lastIn st)) 5 i) (next st)
 
--- a step at place i: 2 or 3 where it is none, and else its act on the plans held
-unfoldable pub stepped : ℕ → Decoded → List Plan → (List Plan → Verdict) → Verdict
-stepped i (Bad r) st next = refused r
-stepped i (Good s) st next = onward i (act nine plans (meant s) st) next
+-- step i: 2 or 3 where it is none
+unfoldable pub stepped : ℕ → Decoded → List Reach → (List Reach → Checked) → Checked
+stepped i (Bad why) st next = Refused why
+stepped i (Good s) st next = onward i (act reaches s st) next
 
--- the end, after i steps: exactly one signal is left
-unfoldable pub ended : ℕ → List Plan → Verdict
-ended i [] = refused (SignalsHeld i)
-ended i (e ∷ []) = accepted e
-ended i (e ∷ f ∷ st) = refused (SignalsHeld i)
+-- m steps from step i on, with the reaches of the signals held so far; at the end 4 where not one signal is left
+unfoldable pub judgedFrom : List ℕ → ℕ → ℕ → List Reach → Checked
+judgedFrom r zero i st = refuseIf (not (eqb (length st) 1)) 4 i
+judgedFrom r (suc m) i st = stepped i (stepAt r i) st (judgedFrom r m (i + 1))
 
--- m steps from place i on, with the plans held so far
-unfoldable pub judgedFrom : List ℕ → ℕ → ℕ → List Plan → Verdict
-judgedFrom r zero i st = ended i st
-judgedFrom r (suc m) i st = stepped i (stepAt r i) st (λ st′. judgedFrom r m (i + 1) st′)
+-- all its steps
+unfoldable pub judged : List ℕ → Checked
+judged r = judgedFrom r (length r / stepBytes) 0 []
 
--- the recipe is empty, over 128 bytes, or not a multiple of 4
-unfoldable pub badLength : List ℕ → Bool
-badLength r = eqb (length r) 0 || ltb 128 (length r) || not (eqb (length r % 4) 0)
-
-unfoldable pub judged : List ℕ → Verdict
-judged r = cond (badLength r) (refused (RecipeLength (length r))) (judgedFrom r (length r / 4) 0 [])
-
--- a verdict as a check
-abbrev pub checkedOf : Verdict → Checked
-checkedOf (accepted e) = checked.Fine
-checkedOf (refused r) = checked.Refused r
-
--- the refusal of what is no step
-abbrev pub refusalIn : Decoded → Checked
-refusalIn (Good s) = checked.Fine
-refusalIn (Bad r) = checked.Refused r
+-- a recipe is empty, over 128 bytes, or not a multiple of 4
+unfoldable pub badLength : ℕ → Bool
+badLength n = eqb n 0 || ltb (stepBytes * mostSteps) n || not (eqb (n % stepBytes) 0)
 
 -- 1 to 5
 unfoldable pub recipeChecked : List ℕ → Checked
-recipeChecked r = checkedOf (judged r)
-
--- the plan that an accepted recipe leaves
-abbrev pub planIn : Verdict → Plan
-planIn (accepted e) = e
-planIn (refused r) = scan
-
-unfoldable pub planOf : List ℕ → Plan
-planOf r = planIn (judged r)
+recipeChecked r = orElse (refuseIf (badLength (length r)) 1 (length r)) (judged r)

@@ -1,4 +1,6 @@
--- What the contracts on recipes cite: the steps' bytes, the reach that a step leaves, and which recipes are accepted.
+-- What the contracts on recipes cite: a step's bytes, what steps do one after another, which recipes are accepted, and what a recipe gives.
 pub mod Steps
-pub mod Reaches
+pub mod Machine
 pub mod Judge
+pub mod Meaning
+pub mod Parts

@@ -1,20 +1,25 @@
 // Recipes: the steps decoded from their bytes, and whether a recipe is accepted.
 //
 // No public function has a `requires`, and nothing is assumed.
+use limits::MOST_SIGNALS;
+use limits::MOST_STEPS;
+use limits::PATTERNS;
+use limits::STEP_BYTES;
 use refusals::Checked;
 use refusals::Refusal;
 ghost use mathlib.Core.Path.{_≡_};
-ghost use Prim.Native.Nat.{_/_, _≤_, _<_};
-ghost use mathlib.Core.List.{[]};
-ghost use lib.IntN.{negℤ, _-ℤ_};
-ghost use lib.ListN.{length, getD};
-ghost use lib.Signed.{mag};
-ghost use Rattle.theory.specs.Signals.{nine};
-ghost use Rattle.theory.specs.Recipes.{size as sizeOf};
-ghost use Rattle.theory.specs.Orders.{ints, smaller as lesser, larger as greater};
-ghost use Rattle.recipes.specs.Steps.{noFields, isSet, setAlone, rankFits, oddSet, allowed, changeOf, joinOf, decodedOf, stepAt, meant, Sane};
-ghost use Rattle.recipes.specs.Reaches.{Little, stays, moved, minOf, maxOf, erodedReach, dilatedReach, openedReach, joinedReach, taken, reachLeft};
-ghost use Rattle.recipes.specs.Judge.{refusalIn, checkedOf, judgedFrom, recipeChecked};
+ghost use lib.IntN.{_-ℤ_};
+ghost use lib.ListN.{getD};
+ghost use Rattle.theory.specs.Orders.{ints, smaller as smallerOf, larger as largerOf};
+ghost use Rattle.theory.specs.Signals.{window, size as sizeOf};
+ghost use Rattle.recipes.specs.Steps.{isSet, noFields, setAlone, rankFits, oddSet, allowed, decodedOf, stepAt};
+ghost use Rattle.recipes.specs.Machine.{bothReach};
+ghost use Rattle.recipes.specs.Judge.{isNear, inReach, judged, recipeChecked};
+ghost use Rattle.recipes.specs.Parts.{changeOf, joinOf, refusalIn, taken};
+ghost use Rattle.recipes.specs.Parts.{Near, Little, minOf, maxOf, moved, erodedReach, dilatedReach, openedReach, reachLeft};
+
+// The bytes of a recipe of the most steps.
+const LONGEST_RECIPE: usize = STEP_BYTES * MOST_STEPS;
 
 // A step of document 01's table, with its set B (and its rank k).
 pub enum Step {
@@ -41,11 +46,16 @@ struct Reach {
     hi: i32,
 }
 
-// How many offsets a set has, in its lowest nine bits. Refuses nothing.
+// The set of all offsets.
+const ALL_OFFSETS: u16 = (PATTERNS - 1) as u16;
+// The greatest offset.
+const FAR: i32 = limits::REACH as i32;
+
+// How many offsets a set has; bits that stand for none do not count. Refuses nothing.
 pub fn size(set: u16) -> u8
-    ensures { λ r. ⌜ r ≡ sizeOf nine set ⌝ }
+    ensures { λ r. ⌜ r ≡ sizeOf window set ⌝ }
 {
-    u16::count_ones(set & 511) as u8
+    u16::count_ones(set & ALL_OFFSETS) as u8
 }
 
 // Whether a step that has no field has none.
@@ -55,11 +65,11 @@ fn no_fields(k: u8, set: u16) -> bool
     (k == 0) & (set == 0)
 }
 
-// Whether a set is one of 1 to 511.
+// Whether a set is one of 1 to 511: a set of offsets, with some.
 fn is_set(set: u16) -> bool
     ensures { λ r. ⌜ r ≡ isSet set ⌝ }
 {
-    (1 <= set) & (set <= 511)
+    (1 <= set) & (set <= ALL_OFFSETS)
 }
 
 // Whether the set is the only field.
@@ -90,7 +100,10 @@ fn allow(place: usize, ok: bool, step: Step) -> Decoded
     if ok {
         return Decoded::Good(step);
     }
-    Decoded::Bad(Refusal::StepField(place))
+    Decoded::Bad(Refusal {
+        number: refusals::STEP_FIELD,
+        place,
+    })
 }
 
 // The step of a code from 1 to 4.
@@ -130,7 +143,10 @@ pub fn decode(place: usize, code: u8, rank: u8, set: u16) -> Decoded
         5 => allow(place, rank_fits(rank, set), Step::Rank { k: rank, set }),
         6 => allow(place, odd_set(rank, set), Step::Median(set)),
         7..=8 => allow(place, no_fields(rank, set), join_of(code)),
-        _ => Decoded::Bad(Refusal::StepCode(place)),
+        _ => Decoded::Bad(Refusal {
+            number: refusals::STEP_CODE,
+            place,
+        }),
     }
 }
 
@@ -149,76 +165,48 @@ fn byte_at(recipe: &[u8], k: usize) -> u8
 pub fn step_at(recipe: &[u8], place: usize) -> Decoded
     ensures { λ r. ⌜ r ≡ stepAt (now (recipe .entry)) place ⌝ }
 {
-    if recipe.len() / 4 < place {
+    if recipe.len() / STEP_BYTES < place {
         return Decoded::Good(Step::Signal);
     }
-    let at = 4 * place;
+    let at = STEP_BYTES * place;
+    let code = byte_at(recipe, at);
+    let rank = byte_at(recipe, at + 1);
     let low = byte_at(recipe, at + 2);
     let high = byte_at(recipe, at + 3);
-    decode(
-        place,
-        byte_at(recipe, at),
-        byte_at(recipe, at + 1),
-        (low as u16) + 256 * (high as u16),
-    )
-}
-
-// The offset that a position of a set stands for.
-fn offset(position: u32) -> i32
-    requires { ⌜ position < 9 ⌝ }
-    ensures { λ r. ⌜ (r ≡ nine .offset position) × (mag r ≤ 4) ⌝ }
-{
-    (position as i32) - 4
-}
-
-// The least offset of a set: its lowest position is the number of zeros below it.
-fn least_offset(set: u16) -> i32
-    requires { ⌜ (1 ≤ set) × (set ≤ 511) ⌝ }
-    ensures { λ r. ⌜ (r ≡ minOf set) × (mag r ≤ 4) ⌝ }
-{
-    offset(u16::trailing_zeros(set))
-}
-
-// The greatest offset of a set: the zeros above its highest position leave that of 15.
-fn greatest_offset(set: u16) -> i32
-    requires { ⌜ (1 ≤ set) × (set ≤ 511) ⌝ }
-    ensures { λ r. ⌜ (r ≡ maxOf set) × (mag r ≤ 4) ⌝ }
-{
-    offset(15 - u16::leading_zeros(set))
+    decode(place, code, rank, bits::word(low, high))
 }
 
 // The smaller of two offsets.
 fn smaller(a: i32, b: i32) -> i32
-    ensures { λ r. ⌜ r ≡ lesser ints a b ⌝ }
+    ensures { λ r. ⌜ r ≡ smallerOf ints a b ⌝ }
 {
     if a <= b { a } else { b }
 }
 
 // The larger of two offsets.
 fn larger(a: i32, b: i32) -> i32
-    ensures { λ r. ⌜ r ≡ greater ints a b ⌝ }
+    ensures { λ r. ⌜ r ≡ largerOf ints a b ⌝ }
 {
     if a <= b { b } else { a }
 }
 
-// Whether a reach stays in -4 to 4.
-fn is_near(reach: Reach) -> bool
-    ensures { λ r. ⌜ r ≡ stays reach ⌝ }
+// Whether an end of a reach is -4 to 4.
+fn is_near(z: i32) -> bool
+    ensures { λ r. ⌜ r ≡ isNear z ⌝ }
 {
-    (-4 <= reach.lo) & (reach.hi <= 4)
+    (-FAR <= z) & (z <= FAR)
 }
 
-// The number with the other sign.
-fn opposite(z: i32) -> i32
-    requires { ⌜ mag z ≤ 10 ⌝ }
-    ensures { λ r. ⌜ (r ≡ negℤ z) × (mag r ≤ 11) ⌝ }
+// Whether a reach lies in -4 to 4.
+fn is_in_reach(reach: Reach) -> bool
+    ensures { λ r. ⌜ r ≡ inReach reach ⌝ }
 {
-    -z
+    is_near(reach.lo) & is_near(reach.hi)
 }
 
 // A reach whose ends are moved.
 fn move_ends(reach: Reach, left: i32, right: i32) -> Reach
-    requires { ⌜ Little reach × (mag left ≤ 11) × (mag right ≤ 11) ⌝ }
+    requires { ⌜ Little reach × Near 4 left × Near 4 right ⌝ }
     ensures { λ r. ⌜ r ≡ moved left right reach ⌝ }
 {
     Reach {
@@ -227,47 +215,48 @@ fn move_ends(reach: Reach, left: i32, right: i32) -> Reach
     }
 }
 
-// The reach of an erode, a rank or a median.
+// The reach of an erode, a rank or a median: lo+min B to hi+max B.
 fn erode_reach(reach: Reach, set: u16) -> Reach
-    requires { ⌜ (1 ≤ set) × (set ≤ 511) × Little reach ⌝ }
+    requires { ⌜ Little reach ⌝ }
     ensures { λ r. ⌜ r ≡ erodedReach set reach ⌝ }
-{
-    move_ends(reach, least_offset(set), greatest_offset(set))
-}
-
-// The reach of a dilate.
-fn dilate_reach(reach: Reach, set: u16) -> Reach
-    requires { ⌜ (1 ≤ set) × (set ≤ 511) × Little reach ⌝ }
-    ensures { λ r. ⌜ r ≡ dilatedReach set reach ⌝ }
 {
     move_ends(
         reach,
-        opposite(greatest_offset(set)),
-        opposite(least_offset(set)),
+        windows::least_offset(set),
+        windows::greatest_offset(set),
     )
 }
 
-// The greatest offset of a set minus its least.
-fn span(set: u16) -> i32
-    requires { ⌜ (1 ≤ set) × (set ≤ 511) ⌝ }
-    ensures { λ r. ⌜ (r ≡ maxOf set -ℤ minOf set) × (mag r ≤ 10) ⌝ }
+// The reach of a dilate: lo-max B to hi-min B.
+fn dilate_reach(reach: Reach, set: u16) -> Reach
+    requires { ⌜ Little reach ⌝ }
+    ensures { λ r. ⌜ r ≡ dilatedReach set reach ⌝ }
 {
-    greatest_offset(set) - least_offset(set)
+    let least = windows::least_offset(set);
+    let greatest = windows::greatest_offset(set);
+    move_ends(reach, -greatest, -least)
 }
 
-// The reach of an open or a close.
+// max B-min B.
+fn span(set: u16) -> i32
+    ensures { λ r. ⌜ (r ≡ maxOf set -ℤ minOf set) × Near 3 r ⌝ }
+{
+    windows::greatest_offset(set) - windows::least_offset(set)
+}
+
+// The reach of an open or a close: lo-(max B-min B) to hi+(max B-min B).
 fn open_reach(reach: Reach, set: u16) -> Reach
-    requires { ⌜ (1 ≤ set) × (set ≤ 511) × Little reach ⌝ }
+    requires { ⌜ Little reach ⌝ }
     ensures { λ r. ⌜ r ≡ openedReach set reach ⌝ }
 {
     let span = span(set);
-    move_ends(reach, opposite(span), span)
+    move_ends(reach, -span, span)
 }
 
 // The reach of the larger or the smaller of two signals.
 fn join_reach(q: Reach, r: Reach) -> Reach
     requires { ⌜ Little q × Little r ⌝ }
-    ensures { λ s. ⌜ s ≡ joinedReach q r ⌝ }
+    ensures { λ s. ⌜ s ≡ bothReach q r ⌝ }
 {
     Reach {
         lo: smaller(q.lo, r.lo),
@@ -277,7 +266,7 @@ fn join_reach(q: Reach, r: Reach) -> Reach
 
 // How many signals a step takes.
 fn takes(step: Step) -> usize
-    ensures { λ r. ⌜ r ≡ taken (meant step) ⌝ }
+    ensures { λ r. ⌜ r ≡ taken step ⌝ }
 {
     match step {
         Step::Signal => 0,
@@ -295,7 +284,7 @@ fn takes(step: Step) -> usize
 // The reach of the signal that a step leaves, of the reaches of the signals that it takes: document 01's
 // column. What the step does not take is not read.
 fn reach_after(step: Step, q: Reach, r: Reach) -> Reach
-    requires { ⌜ Sane step × Little q × Little r ⌝ }
+    requires { ⌜ Little q × Little r ⌝ }
     ensures { λ s. ⌜ s ≡ reachLeft step q r ⌝ }
 {
     match step {
@@ -324,14 +313,14 @@ fn refuse(decoded: Decoded) -> Checked
 // Whether a recipe's steps are accepted: step by step 2, 3, 4, 5, then 4 at the end.
 //
 // The reach of each signal held stands in the order in which they were added. A step leaves its signal
-// where the first of those that it takes stood. Eight signals may be held; the ninth place is there so
-// that the place after that one can always be read.
-fn walk(recipe: &[u8]) -> Checked
-    ensures { λ r. ⌜ r ≡ checkedOf (judgedFrom (now (recipe .entry)) (length (now (recipe .entry)) / 4) 0 []) ⌝ }
+// where the first of those that it takes stood. The array has one element more than signals may be held,
+// so that the one after that can always be read.
+fn judge_steps(recipe: &[u8]) -> Checked
+    ensures { λ r. ⌜ r ≡ judged (now (recipe .entry)) ⌝ }
 {
-    let steps = recipe.len() / 4;
-    let mut reaches = [Reach { lo: 0, hi: 0 }; 9];
-    let mut held: usize = 0;
+    let steps = recipe.len() / STEP_BYTES;
+    let mut reaches = [Reach { lo: 0, hi: 0 }; MOST_SIGNALS + 1];
+    let mut count: usize = 0;
     let mut i: usize = 0;
     while i < steps {
         let decoded = step_at(recipe, i);
@@ -339,25 +328,31 @@ fn walk(recipe: &[u8]) -> Checked
             return refuse(decoded);
         };
         let taken = takes(step);
-        if held < taken {
-            return Checked::Refused(Refusal::SignalsHeld(i));
+        if count < taken {
+            return Checked::Refused(Refusal {
+                number: refusals::SIGNALS_HELD,
+                place: i,
+            });
         }
-        let at = held - taken;
-        if 7 < at {
-            return Checked::Refused(Refusal::SignalsHeld(i));
+        let at = count - taken;
+        if MOST_SIGNALS <= at {
+            return Checked::Refused(Refusal {
+                number: refusals::SIGNALS_HELD,
+                place: i,
+            });
         }
         let reach = reach_after(step, reaches[at], reaches[at + 1]);
-        if !is_near(reach) {
-            return Checked::Refused(Refusal::Reach(i));
+        if !is_in_reach(reach) {
+            return Checked::Refused(Refusal {
+                number: refusals::REACH,
+                place: i,
+            });
         }
         reaches[at] = reach;
-        held = at + 1;
+        count = at + 1;
         i += 1;
     }
-    if held == 1 {
-        return Checked::Fine;
-    }
-    Checked::Refused(Refusal::SignalsHeld(steps))
+    refusals::refuse_if(count != 1, refusals::SIGNALS_HELD, steps)
 }
 
 // Whether a recipe is accepted. Refuses 1 with its length; then, at the first step where one is due,
@@ -366,8 +361,11 @@ pub fn judge(recipe: &[u8]) -> Checked
     ensures { λ r. ⌜ r ≡ recipeChecked (now (recipe .entry)) ⌝ }
 {
     let n = recipe.len();
-    if (n == 0) | (128 < n) | !(n % 4 == 0) {
-        return Checked::Refused(Refusal::RecipeLength(n));
+    if (n == 0) | (LONGEST_RECIPE < n) | !(n % STEP_BYTES == 0) {
+        return Checked::Refused(Refusal {
+            number: refusals::RECIPE_LENGTH,
+            place: n,
+        });
     }
-    walk(recipe)
+    judge_steps(recipe)
 }

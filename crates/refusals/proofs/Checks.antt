@@ -16,9 +16,9 @@ pub refused-fine : {P : Type 0} (r : Refusal) → Refused r ≡ Fine → P
 refused-fine r e = let z : _≡_ {A = ℕ} 0 1 = cc in absurd (omega arith)
 
 -- a test that refuses did not pass, where nothing is refused
-pub refuse-no : (b : Bool) (r : Refusal) → refuseIf b r ≡ Fine → b ≡ false
-refuse-no true r e = refused-fine r e
-refuse-no false r e = refl
+pub refuse-no : (b : Bool) (n p : ℕ) → refuseIf b n p ≡ Fine → b ≡ false
+refuse-no true n p e = refused-fine _ e
+refuse-no false n p e = refl
 
 -- of two checks in order, neither refuses where the order finds nothing
 pub or-else-fine : (a b : Checked) → orElse a b ≡ Fine → (a ≡ Fine) × (b ≡ Fine)

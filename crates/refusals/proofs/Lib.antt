@@ -1,3 +1,4 @@
--- Laws of an order of refusals.
+-- The laws of refusals and answers.
 pub mod Checks
-pub mod Limits
+pub mod Shared
+pub mod Decided

@@ -1,3 +1,4 @@
 -- What the contracts of every call cite of refusals and answers.
 pub mod Refusals
-pub mod Limits
+pub mod Shared
+pub mod Promise

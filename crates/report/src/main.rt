@@ -3,18 +3,23 @@
 // is refused, `refused`, the number and the place. Single spaces stand between fields.
 use libc::STDIN_FILENO;
 use libc::STDOUT_FILENO;
+use limits::LONGEST_FILE;
 use refusals::Refusal;
 use reports::CountAnswer;
 use reports::Counts;
 ghost use mathlib.Core.Path.{_≡_};
+ghost use Prim.Native.Nat.{_+_};
 ghost use lib.ListN.{length};
+ghost use Rattle.limits.specs.Limits.{longestFile};
 
-// Zeros, one more than the longest file has bytes: an input that fills it is refused as a file that is too long, however
-// long it is. The `ensures` gives only the length, which lending the array as a slice needs.
-fn buffer() -> [u8; 33033]
-    ensures { λ r. ⌜ 33033 ≡ length r ⌝ }
+// One byte more than the longest file has: an input that fills it is refused as a file that is too long, however long it is.
+const INPUT: usize = LONGEST_FILE + 1;
+
+// The `ensures` gives only the length, which lending the array as a slice needs.
+fn buffer() -> [u8; INPUT]
+    ensures { λ r. ⌜ longestFile + 1 ≡ length r ⌝ }
 {
-    [0; 33033]
+    [0; INPUT]
 }
 
 // Prints a field that is not the first: a space and the number.
@@ -35,8 +40,8 @@ fn print_counts(counts: Counts) {
 // Prints why the file is refused.
 fn print_refusal(refusal: Refusal) {
     io::write_all(STDOUT_FILENO, b"refused");
-    print_next(refusals::number(refusal) as u64);
-    print_next(refusals::place(refusal) as u64);
+    print_next(refusal.number as u64);
+    print_next(refusal.place as u64);
 }
 
 fn main() {

@@ -1,5 +1,5 @@
 -- Laws of the report's counts.
-pub mod Totals
+pub mod Sums
 pub mod Spikes
 pub mod Residues
 pub mod Counted

@@ -19,7 +19,10 @@ change-difference a b = go (side a b) (which (eqb a b))
     go : (a < b) ⊎ (b ≤ a) → (eqb a b ≡ true) ⊎ (eqb a b ≡ false) → isChange (pos a -ℤ pos b) ≡ not (eqb a b)
     go (inl l) e = rw (minus-low a b l, ne-eqb a b (λ q. omega arith))
     go (inr l) (inl e) = let z : a - b ≡ 0 = omega (arith, eqb-true a b e) in rw (minus-high a b l, z, e)
-    go (inr l) (inr e) = let ne : a ≡ b → ⊥ = eqb-false a b e in let z : a - b ≡ suc (a - suc b) = omega arith in rw (minus-high a b l, z, e)
+    go (inr l) (inr e) =
+        let ne : a ≡ b → ⊥ = eqb-false a b e in
+        let z : a - b ≡ suc (a - suc b) = omega arith in
+        rw (minus-high a b l, z, e)
 
 pub above-difference : (a b : ℕ) → above (pos a -ℤ pos b) ≡ a - b
 unfolding above

@@ -9,11 +9,11 @@ use native.Mathlib.Numerals.{add-one}
 use native.Mathlib.Omega.{arith}
 use lib.Dec.{leb, ltb, eqb}
 use borrow.Author.Tests.{lt-ltb, ltb-true, ltb-false, le-leb, leb-true, eq-eqb, ne-eqb, eqb-true, eqb-false, not-true, not-false}
-use Rattle.theory.specs.Lists.{from, first, bit, total}
+use Rattle.theory.specs.Lists.{from, first, bit, sum}
 use Rattle.theory.proofs.Tests.{same-test, and-left, and-right, and-both, which, not-both}
 use Rattle.theory.proofs.Lists.{all-at, all-by, from-mem, from-at}
 use Rattle.reports.specs.Runs.{isRun, isLongest, longestRuns}
-use Rattle.reports.proofs.Totals.{total-cong, total-zero, total-one, first-le, first-before, first-there}
+use Rattle.reports.proofs.Sums.{sum-cong, sum-zero, sum-one, first-le, first-before, first-there}
 
 module _ (kind : ℕ → ℕ) where
   -- the kind before x; 0 before the first sample
@@ -33,8 +33,8 @@ module _ (kind : ℕ → ℕ) where
   -- ---- a run, as facts
 
   record Run (a b : ℕ) : Type 0 where
-    some : a < b
-    changed : kind a ≡ 0 → ⊥
+    nonempty : a < b
+    nonzero : kind a ≡ 0 → ⊥
     same : (x : ℕ) → a ≤ x → x < b → kind x ≡ kind a
 
   run-facts : (a b : ℕ) → isRun kind a b ≡ true → Run a b
@@ -42,17 +42,22 @@ module _ (kind : ℕ → ℕ) where
   run-facts a b e =
       let front = and-left (ltb a b && not (eqb (kind a) 0)) _ e in
       let l : a < b = ltb-true a b (and-left _ _ front) in
+      let alike = and-right (ltb a b && not (eqb (kind a) 0)) _ e in
       record {
-        some = l;
-        changed = eqb-false (kind a) 0 (not-true _ (and-right (ltb a b) _ front));
-        same = λ x h k. eqb-true (kind x) (kind a) (all-at (λ y. eqb (kind y) (kind a)) (and-right (ltb a b && not (eqb (kind a) 0)) _ e) (from-mem a (b - a) h (omega arith)));
+        nonempty = l;
+        nonzero = eqb-false (kind a) 0 (not-true _ (and-right (ltb a b) _ front));
+        same = λ x h k. eqb-true (kind x) (kind a) (all-at (λ y. eqb (kind y) (kind a)) alike (from-mem a (b - a) h (omega arith)));
       }
 
   run-by : (a b : ℕ) → Run a b → isRun kind a b ≡ true
   unfolding isRun
   run-by a b r =
-      and-both (and-both (lt-ltb a b (r .some)) (ap not (ne-eqb (kind a) 0 (r .changed))))
-      (all-by (λ x. eqb (kind x) (kind a)) (from a (b - a)) (λ x m. let at = from-at a (b - a) m in let l : a < b = r .some in eq-eqb (kind x) (kind a) (r .same x (at .0) (omega (arith, at .1)))))
+      and-both (and-both (lt-ltb a b (r .nonempty)) (ap not (ne-eqb (kind a) 0 (r .nonzero))))
+      (all-by (λ x. eqb (kind x) (kind a)) (from a (b - a))
+      (λ x m.
+      let at = from-at a (b - a) m in
+      let l : a < b = r .nonempty in
+      eq-eqb (kind x) (kind a) (r .same x (at .0) (omega (arith, at .1)))))
 
   -- ---- a longest run, as facts
 
@@ -80,8 +85,9 @@ module _ (kind : ℕ → ℕ) where
   longest-by : (n a b : ℕ) → Longest n a b → isLongest n kind a b ≡ true
   unfolding isLongest
   longest-by n a b g =
-      and-both (and-both (and-both (run-by a b (g .run)) (le-leb b n (g .inside))) (none (ltb 0 a) (isRun kind (a - 1) b) (λ h q. g .no-earlier (ltb-true 0 a h) (run-facts (a - 1) b q))))
-      (none (ltb b n) (isRun kind a (b + 1)) (λ h q. g .no-later (ltb-true b n h) (run-facts a (b + 1) q)))
+      let earlier = none (ltb 0 a) (isRun kind (a - 1) b) (λ h q. g .no-earlier (ltb-true 0 a h) (run-facts (a - 1) b q)) in
+      let later = none (ltb b n) (isRun kind a (b + 1)) (λ h q. g .no-later (ltb-true b n h) (run-facts a (b + 1) q)) in
+      and-both (and-both (and-both (run-by a b (g .run)) (le-leb b n (g .inside))) earlier) later
     where
       none : (s t : Bool) → (s ≡ true → t ≡ true → ⊥) → not (s && t) ≡ true
       none true true f = absurd (f refl refl)
@@ -128,7 +134,7 @@ module _ (kind : ℕ → ℕ) where
     start-run s =
         let new = eqb-false (kind a) (kindBefore a) (not-true _ (and-right (not (eqb (kind a) 0)) _ s)) in
         record {
-          run = record { some = stop-past; changed = eqb-false (kind a) 0 (not-true _ (and-left _ _ s)); same = same-till };
+          run = record { nonempty = stop-past; nonzero = eqb-false (kind a) 0 (not-true _ (and-left _ _ s)); same = same-till };
           inside = stop-le;
           no-earlier = λ h r. new (r .same a (omega arith) stop-past ∙ sym (before-is a h));
           no-later = λ h r. stop-other h (r .same stop (omega (arith, stop-past)) (omega arith));
@@ -140,8 +146,12 @@ module _ (kind : ℕ → ℕ) where
         short : b < stop → ⊥
         short l =
             let m = stop-le in
-            let some = g .run .some in
-            g .no-later (omega arith) (record { some = omega arith; changed = g .run .changed; same = λ x h k. same-till x h (omega arith) })
+            let nonempty = g .run .nonempty in
+            g .no-later (omega arith) (record {
+              nonempty = omega arith;
+              nonzero = g .run .nonzero;
+              same = λ x h k. same-till x h (omega arith);
+            })
 
         long : stop < b → ⊥
         long l =
@@ -160,44 +170,51 @@ module _ (kind : ℕ → ℕ) where
     no-run s b g = go (which (ltb 0 a))
       where
         same : kind a ≡ kindBefore a
-        same = eqb-true (kind a) (kindBefore a) (not-false _ (rw (ne-eqb (kind a) 0 (g .run .changed)) at s))
+        same = eqb-true (kind a) (kindBefore a) (not-false _ (rw (ne-eqb (kind a) 0 (g .run .nonzero)) at s))
 
         go : (ltb 0 a ≡ true) ⊎ (ltb 0 a ≡ false) → ⊥
         go (inl e) =
             let h : 0 < a = ltb-true 0 a e in
             let back : kind a ≡ kind (a - 1) = same ∙ before-is a h in
-            let some = g .run .some in
-            g .no-earlier h (record { some = omega arith; changed = λ z. g .run .changed (back ∙ z); same = λ x l k. at x (which (ltb x a)) l k back })
+            let nonempty = g .run .nonempty in
+            g .no-earlier h (record {
+              nonempty = omega arith;
+              nonzero = λ z. g .run .nonzero (back ∙ z);
+              same = λ x l k. at x (which (ltb x a)) l k back;
+            })
           where
             at : (x : ℕ) → (ltb x a ≡ true) ⊎ (ltb x a ≡ false) → a - 1 ≤ x → x < b → kind a ≡ kind (a - 1) → kind x ≡ kind (a - 1)
             at x (inl q) l k back = let z : x ≡ a - 1 = omega (arith, ltb-true x a q) in ap kind z
             at x (inr q) l k back = g .run .same x (ltb-false x a q) k ∙ back
-        go (inr e) = let z : a ≡ 0 = omega (arith, ltb-false 0 a e) in g .run .changed (same ∙ ap kindBefore z)
+        go (inr e) = let z : a ≡ 0 = omega (arith, ltb-false 0 a e) in g .run .nonzero (same ∙ ap kindBefore z)
 
-    runs-from : total (suc n) (λ b. bit (isLongest n kind a b)) ≡ bit (startsAt a)
+    runs-from : sum (suc n) (λ b. bit (isLongest n kind a b)) ≡ bit (startsAt a)
     unfolding bit
     runs-from = go (which (startsAt a))
       where
-        one : startsAt a ≡ true → total (suc n) (λ b. bit (isLongest n kind a b)) ≡ 1
+        one : startsAt a ≡ true → sum (suc n) (λ b. bit (isLongest n kind a b)) ≡ 1
         one s =
-            total-cong (suc n) (λ b. bit (isLongest n kind a b)) (λ b. bit (eqb b stop))
-            (λ b h. ap bit (same-test (λ e. eq-eqb b stop (only-run b (longest-facts n a b e))) (λ e. rw (eqb-true b stop e) (longest-by n a stop (start-run s)))))
-            ∙ total-one (suc n) stop (omega (arith, stop-le))
+            sum-cong (suc n) (λ b. bit (isLongest n kind a b)) (λ b. bit (eqb b stop))
+            (λ b h.
+            ap bit
+            (same-test (λ e. eq-eqb b stop (only-run b (longest-facts n a b e)))
+            (λ e. rw (eqb-true b stop e) (longest-by n a stop (start-run s)))))
+            ∙ sum-one (suc n) stop (omega (arith, stop-le))
 
-        none : startsAt a ≡ false → total (suc n) (λ b. bit (isLongest n kind a b)) ≡ 0
+        none : startsAt a ≡ false → sum (suc n) (λ b. bit (isLongest n kind a b)) ≡ 0
         none s =
-            total-cong (suc n) (λ b. bit (isLongest n kind a b)) (λ b. 0)
+            sum-cong (suc n) (λ b. bit (isLongest n kind a b)) (λ b. 0)
             (λ b h. ap bit (same-test {b = false} (λ e. absurd (no-run s b (longest-facts n a b e))) (λ e. absurd (not-both e refl))))
-            ∙ total-zero (suc n)
+            ∙ sum-zero (suc n)
 
-        go : (startsAt a ≡ true) ⊎ (startsAt a ≡ false) → total (suc n) (λ b. bit (isLongest n kind a b)) ≡ bit (startsAt a)
+        go : (startsAt a ≡ true) ⊎ (startsAt a ≡ false) → sum (suc n) (λ b. bit (isLongest n kind a b)) ≡ bit (startsAt a)
         go (inl e) = one e ∙ sym (ap bit e)
         go (inr e) = none e ∙ sym (ap bit e)
 
   -- the number of longest runs is the number of their starts
-  pub runs-by-starts : (n : ℕ) → longestRuns n kind ≡ total n (λ a. bit (startsAt a))
+  pub runs-by-starts : (n : ℕ) → longestRuns n kind ≡ sum n (λ a. bit (startsAt a))
   unfolding longestRuns
-  runs-by-starts n = total-cong n _ (λ a. bit (startsAt a)) (λ a h. runs-from n a h)
+  runs-by-starts n = sum-cong n _ (λ a. bit (startsAt a)) (λ a h. runs-from n a h)
 
   pub before-next : (x : ℕ) → kindBefore (x + 1) ≡ kind x
   unfolding kindBefore
@@ -206,7 +223,7 @@ module _ (kind : ℕ → ℕ) where
 -- equal kinds, equally many longest runs
 pub runs-cong : (n : ℕ) (k m : ℕ → ℕ) → ((x : ℕ) → x < n → k x ≡ m x) → longestRuns n k ≡ longestRuns n m
 unfolding startsAt kindBefore
-runs-cong n k m e = runs-by-starts k n ∙ total-cong n (λ a. bit (startsAt k a)) (λ a. bit (startsAt m a)) at ∙ sym (runs-by-starts m n)
+runs-cong n k m e = runs-by-starts k n ∙ sum-cong n (λ a. bit (startsAt k a)) (λ a. bit (startsAt m a)) at ∙ sym (runs-by-starts m n)
   where
     before : (a : ℕ) → a < n → kindBefore k a ≡ kindBefore m a
     before zero h = refl

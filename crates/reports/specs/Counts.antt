@@ -5,11 +5,10 @@ use mathlib.Core.Bool.{Bool, true, false}
 use mathlib.Core.List.{List}
 use lib.ListN.{length}
 use lib.IntN.{ℤ, pos, negsuc}
-use Rattle.theory.specs.Lists.{bit, total}
-use Rattle.theory.specs.Signals.{residueAt}
-use Rattle.refusals.specs.declared.Checked.{Checked}
-use Rattle.refusals.specs.declared.Checked.the-variants as checked
-use Rattle.files.specs.Layout.{fileSamples, fileTerms}
+use Rattle.theory.specs.Lists.{bit, sum}
+use Rattle.theory.specs.Signals.{held, residueAt}
+use Rattle.refusals.specs.Refusals.{answered}
+use Rattle.files.specs.Layout.{countsFamily, fileSamples, fileTerms}
 use Rattle.files.specs.Files.{fileChecked}
 use Rattle.reports.specs.declared.Counts.{Counts}
 use Rattle.reports.specs.declared.CountAnswer.{CountAnswer}
@@ -41,17 +40,15 @@ below (negsuc n) = suc n
 unfoldable pub countsOf : ℕ → (ℕ → ℤ) → Counts
 countsOf n residue = record {
   samples = n;
-  changed = total n (λ x. bit (isChange (residue x)));
+  changed = sum n (λ x. bit (isChange (residue x)));
   spikes = longestRuns n (λ x. kindOf (residue x));
-  up = total n (λ x. above (residue x));
-  down = total n (λ x. below (residue x));
+  up = sum n (λ x. above (residue x));
+  down = sum n (λ x. below (residue x));
 }
 
--- a count's answer
-abbrev pub countAnswerOf : Checked → Counts → CountAnswer
-countAnswerOf checked.Fine counts = answer.Counted counts
-countAnswerOf (checked.Refused r) counts = answer.Refused r
-
 -- counting from the file f: 11, 7, 8, 9, or the counts of its form on its scan
-pub record WasCounted (f : List ℕ) (a : CountAnswer) : Type 0 where
-  pub answer : a ≡ countAnswerOf (fileChecked f) (countsOf (length (fileSamples f)) (residueAt (fileTerms f) (fileSamples f)))
+abbrev pub Count : List ℕ → CountAnswer → Type 0
+Count f a =
+    a ≡ answered (fileChecked countsFamily f)
+    (answer.Counted (countsOf (length (fileSamples f)) (residueAt held (fileTerms f) (fileSamples f))))
+    answer.Refused

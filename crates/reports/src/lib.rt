@@ -2,6 +2,8 @@
 //
 // No public function has a `requires`, and nothing is assumed.
 use files::ReadAnswer;
+use limits::MOST_SAMPLES;
+use limits::MOST_TERMS;
 use refusals::Refusal;
 ghost use mathlib.Core.Path.{_≡_};
 ghost use mathlib.Core.Bool.{_&&_, not};
@@ -9,11 +11,11 @@ ghost use Prim.Native.Nat.{_-_, _≤_};
 ghost use lib.Dec.{eqb};
 ghost use lib.ListN.{length, getD};
 ghost use lib.IntN.{pos, _-ℤ_};
-ghost use Rattle.theory.specs.Lists.{bit};
-ghost use Rattle.theory.specs.Signals.{residueAt};
+ghost use Rattle.limits.specs.Limits.{mostSamples, mostTerms, top};
+ghost use Rattle.theory.specs.Signals.{held, residueAt};
 ghost use Rattle.refusals.specs.declared.Checked.the-variants.{Fine};
 ghost use Rattle.scans.specs.Run.{runChecked};
-ghost use Rattle.reports.specs.Counts.{kindOf, countsOf, WasCounted};
+ghost use Rattle.reports.specs.Counts.{kindOf, countsOf, Count};
 
 // What the report prints of a file.
 pub struct Counts {
@@ -35,51 +37,45 @@ pub enum CountAnswer {
     Refused(Refusal),
 }
 
-// 1 where the test passes, 0 where it does not.
-fn one_if(test: bool) -> u64
-    ensures { λ r. ⌜ (r ≡ bit test) × (r ≤ 1) ⌝ }
-{
-    if test { 1 } else { 0 }
-}
-
 // How far a lies above b; 0 where it does not.
-fn excess(a: u16, b: u16) -> u64
-    ensures { λ r. ⌜ (r ≡ a - b) × (r ≤ 65535) ⌝ }
+fn excess(a: u16, b: u16) -> usize
+    ensures { λ r. ⌜ (r ≡ a - b) × (r ≤ top) ⌝ }
 {
-    if b < a { (a - b) as u64 } else { 0 }
+    if b < a { (a - b) as usize } else { 0 }
 }
 
 // The kind that a spike's samples have in common; 0 for a sample that did not change.
-fn kind(raw: u16, cleaned: u16) -> u64
+fn kind(raw: u16, cleaned: u16) -> usize
     ensures { λ r. ⌜ r ≡ kindOf (pos raw -ℤ pos cleaned) ⌝ }
 {
-    one_if(raw != cleaned)
+    bits::bit(raw != cleaned)
 }
 
 // Whether a run starts at a sample of one kind behind a sample of another.
-fn starts_run(kind: u64, before: u64) -> bool
+fn starts_run(kind: usize, before: usize) -> bool
     ensures { λ r. ⌜ r ≡ (not (eqb kind 0) && not (eqb kind before)) ⌝ }
 {
     (kind != 0) & (kind != before)
 }
 
-// The counts of a scan and its cleaned values, of at most 16,384 samples.
-fn tally(scan: &[u16], cleaned: &[u16]) -> Counts
-    requires { ⌜ (length (now scan) ≤ 16384) × (length (now cleaned) ≡ length (now scan)) ⌝ }
-    ensures { λ r. ⌜ r ≡ countsOf (length (now (scan .entry))) (λ x. pos (getD (now (scan .entry)) x 0) -ℤ pos (getD (now (cleaned .entry)) x 0)) ⌝ }
+// The counts of a scan and its cleaned values, by their residues.
+fn count_residues(scan: &[u16], cleaned: &[u16]) -> Counts
+    requires { ⌜ (length (now scan) ≤ mostSamples) × (length (now cleaned) ≡ length (now scan)) ⌝ }
+    ensures { λ r. ⌜ r ≡ countsOf (length (now (scan .entry)))
+        (λ x. pos (getD (now (scan .entry)) x 0) -ℤ pos (getD (now (cleaned .entry)) x 0)) ⌝ }
 {
-    let mut changed: u64 = 0;
-    let mut spikes: u64 = 0;
-    let mut up: u64 = 0;
-    let mut down: u64 = 0;
-    let mut before: u64 = 0;
+    let mut changed: usize = 0;
+    let mut spikes: usize = 0;
+    let mut up: usize = 0;
+    let mut down: usize = 0;
+    let mut before: usize = 0;
     let mut x = 0;
     while x < scan.len() {
         let raw = scan[x];
         let value = cleaned[x];
         let here = kind(raw, value);
-        changed += one_if(raw != value);
-        spikes += one_if(starts_run(here, before));
+        changed += bits::bit(raw != value);
+        spikes += bits::bit(starts_run(here, before));
         up += excess(raw, value);
         down += excess(value, raw);
         before = here;
@@ -87,43 +83,43 @@ fn tally(scan: &[u16], cleaned: &[u16]) -> Counts
     }
     Counts {
         samples: scan.len() as u64,
-        changed,
-        spikes,
-        up,
-        down,
+        changed: changed as u64,
+        spikes: spikes as u64,
+        up: up as u64,
+        down: down as u64,
     }
 }
 
-// Room for any scan: 16,384 zeros. The `ensures` gives only the length, which lending the array as a slice needs.
-fn room() -> [u16; 16384]
-    ensures { λ r. ⌜ 16384 ≡ length r ⌝ }
+// Room for any scan. The `ensures` gives only the length, which lending the array as a slice needs.
+fn room() -> [u16; MOST_SAMPLES]
+    ensures { λ r. ⌜ mostSamples ≡ length r ⌝ }
 {
-    [0; 16384]
+    [0; MOST_SAMPLES]
 }
 
 // The counts of a form and a scan that a run accepts, with as many elements lent for the cleaned values.
-fn clean_and_tally(terms: &[u16], scan: &[u16], cleaned: &mut [u16]) -> Counts
+fn clean_and_count(terms: &[u16], scan: &[u16], cleaned: &mut [u16]) -> Counts
     requires { ⌜ runChecked (now terms) (now scan) (length (now cleaned)) ≡ Fine ⌝ }
-    ensures { λ r. ⌜ r ≡ countsOf (length (now (scan .entry))) (residueAt (now (terms .entry)) (now (scan .entry))) ⌝ }
+    ensures { λ r. ⌜ r ≡ countsOf (length (now (scan .entry))) (residueAt held (now (terms .entry)) (now (scan .entry))) ⌝ }
 {
     scans::clean(terms, scan, cleaned);
-    tally(scan, cleaned)
+    count_residues(scan, cleaned)
 }
 
 // The counts of a form and a scan that a run accepts.
 fn count_scan(terms: &[u16], scan: &[u16]) -> Counts
     requires { ⌜ runChecked (now terms) (now scan) (length (now scan)) ≡ Fine ⌝ }
-    ensures { λ r. ⌜ r ≡ countsOf (length (now (scan .entry))) (residueAt (now (terms .entry)) (now (scan .entry))) ⌝ }
+    ensures { λ r. ⌜ r ≡ countsOf (length (now (scan .entry))) (residueAt held (now (terms .entry)) (now (scan .entry))) ⌝ }
 {
     let mut cleaned = room();
     let n = scan.len();
-    clean_and_tally(terms, scan, &mut cleaned[..n])
+    clean_and_count(terms, scan, &mut cleaned[..n])
 }
 
 // Counts from a file, with room lent for the longest scan and the longest form.
 fn read_and_count(file: &[u8], samples: &mut [u16], terms: &mut [u16]) -> CountAnswer
-    requires { ⌜ (16384 ≤ length (now samples)) × (126 ≤ length (now terms)) ⌝ }
-    ensures { λ r. ⌜ WasCounted (now (file .entry)) r ⌝ }
+    requires { ⌜ (mostSamples ≤ length (now samples)) × (mostTerms ≤ length (now terms)) ⌝ }
+    ensures { λ r. ⌜ Count (now (file .entry)) r ⌝ }
 {
     let answer = files::read(file, samples, terms);
     match answer {
@@ -139,9 +135,9 @@ fn read_and_count(file: &[u8], samples: &mut [u16], terms: &mut [u16]) -> CountA
 // positive and of the negative residues. Refuses 11 for a file that is badly laid out, 7 and 8 of its terms, and 9 of its
 // samples, in this order.
 pub fn count(file: &[u8]) -> CountAnswer
-    ensures { λ r. ⌜ WasCounted (now (file .entry)) r ⌝ }
+    ensures { λ r. ⌜ Count (now (file .entry)) r ⌝ }
 {
     let mut samples = room();
-    let mut terms = [0u16; 126];
+    let mut terms = [0u16; MOST_TERMS];
     read_and_count(file, &mut samples, &mut terms)
 }

@@ -1,12 +1,6 @@
--- The laws of running a recipe on rows.
-pub mod Rows
-pub mod Changes
-pub mod Parts
-pub mod Listed
-pub mod Sweeps
-pub mod Columns
+-- The laws of running a recipe on a stack of rows, piece by piece.
 pub mod Stacks
-pub mod Walks
+pub mod Performs
 pub mod Pieces
 pub mod Fine
 pub mod Decided

@@ -1,4 +1,4 @@
--- What the contracts on running a recipe cite: the run itself, and the rows that it goes by.
+-- What the contract on running a recipe cites (Run), and what the private contracts go by (Stacks, Pieces).
 pub mod Run
-pub mod Rows
 pub mod Stacks
+pub mod Pieces

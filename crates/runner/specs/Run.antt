@@ -1,49 +1,26 @@
--- Running a recipe directly: its plan's meaning on the scan's endless signal, at each sample.
-use mathlib.Core.Path.{_≡_}
-use mathlib.Core.List.{List, _++_}
-use Prim.Native.Nat.{ℕ, _+_, _-_, _*_, _≤_, _<_}
-use lib.IntN.{pos}
-use lib.ListN.{length, take, drop}
+-- Running a recipe directly: its value at each sample, on the scan's endless signal.
+use mathlib.Core.List.{List}
+use Prim.Native.Nat.{ℕ}
+use lib.ListN.{length}
+use Rattle.limits.specs.Limits.{mostSamples}
 use Rattle.theory.specs.Lists.{tab}
-use Rattle.theory.specs.Orders.{counts}
-use Rattle.theory.specs.Signals.{endlessScan}
-use Rattle.theory.specs.Plans.{meaning}
+use Rattle.theory.specs.Signals.{Ends, held}
 use Rattle.refusals.specs.declared.Checked.{Checked}
-use Rattle.refusals.specs.declared.Checked.the-variants.{Fine}
 use Rattle.refusals.specs.declared.Answer.{Answer}
-use Rattle.refusals.specs.Refusals.{orElse, answerOf, written}
-use Rattle.refusals.specs.Limits.{scanChecked, lentChecked}
-use Rattle.recipes.specs.Judge.{recipeChecked, planOf}
+use Rattle.refusals.specs.Refusals.{orElse}
+use Rattle.refusals.specs.Shared.{scanChecked, lentChecked}
+use Rattle.refusals.specs.Promise.{Gives}
+use Rattle.recipes.specs.Judge.{recipeChecked}
+use Rattle.recipes.specs.Meaning.{valueAt}
 
--- the recipe's value at sample x
-unfoldable pub ranAt : List ℕ → List ℕ → ℕ → ℕ
-ranAt r s x = meaning counts (planOf r) (endlessScan s) (pos x)
-
--- its value at each sample
-unfoldable pub ran : List ℕ → List ℕ → List ℕ
-ran r s = tab (length s) (ranAt r s)
+-- the recipe's value at each sample, under an ends rule
+unfoldable pub ran : Ends → List ℕ → List ℕ → List ℕ
+ran ends r s = tab (length s) (valueAt ends r s)
 
 -- running a recipe directly: 1 to 5, 9, 10
 unfoldable pub recipeRunChecked : List ℕ → List ℕ → ℕ → Checked
-recipeRunChecked r s lent = orElse (recipeChecked r) (orElse (scanChecked (length s)) (lentChecked (length s) lent))
+recipeRunChecked r s lent = orElse (recipeChecked r) (orElse (scanChecked mostSamples (length s)) (lentChecked (length s) lent))
 
--- what the call answers and writes
-pub record RecipeRan (r s old new : List ℕ) (a : Answer) : Type 0 where
-  pub answer : a ≡ answerOf (recipeRunChecked r s (length old)) (length s)
-  pub out : new ≡ written (recipeRunChecked r s (length old)) (ran r s) old
-
--- ---- what the private parts go by
-
--- an accepted recipe, a piece of a scan, and room for the rows of eight signals on it and for one row widened by 8
-pub record Piece (r s held spare : List ℕ) : Type 0 where
-  pub fine : recipeChecked r ≡ Fine
-  pub some : 0 < length s
-  pub most : length s ≤ 2048
-  pub deep : 8 * (length s + 8) ≤ length held
-  pub wide : length s + 24 ≤ length spare
-
--- the samples from at to next have their values, and the others are as they were
-pub record PieceRan (r s : List ℕ) (at : ℕ) (old new : List ℕ) (next : ℕ) : Type 0 where
-  pub more : at < next
-  pub most : next ≤ length s
-  pub out : new ≡ take at old ++ (tab (next - at) (λ j. ranAt r s (at + j)) ++ drop next old)
+-- what the call answers and leaves in the slice: as many values as samples, the ends held
+abbrev pub Run : List ℕ → List ℕ → List ℕ → List ℕ → Answer → Type 0
+Run r s = Gives (recipeRunChecked r s) (length s) (ran held r s)

@@ -1,69 +1,57 @@
--- The rows of the signals held, and what a step makes of them.
+-- Only private contracts cite this: the stack of rows, and what a step's work makes of it.
 use mathlib.Core.Path.{_≡_}
-use mathlib.Core.Bool.{Bool, true, false}
+use mathlib.Core.Bool.{true, false}
 use mathlib.Core.List.{List, [], _∷_}
+use mathlib.Core.Option.{Option}
 use Prim.Native.Nat.{ℕ, zero, suc, _+_, _*_, _/_, _≤_, _<_}
-use lib.ListN.{length}
-use Rattle.theory.specs.Signals.{nine}
-use Rattle.theory.specs.Recipes as theory
-use Rattle.theory.specs.Recipes.{erode, dilate, opening, closing, rank, median, signal, one, join, meet, size}
-use Rattle.runner.specs.declared.Change.{Change}
-use Rattle.runner.specs.declared.Change.the-variants.{Stretch, Double, Select}
+use lib.ListN.{length, take, drop}
+use Rattle.limits.specs.Limits.{reach, mostSignals}
+use Rattle.theory.specs.Signals.{window, size}
+use Rattle.recipes.specs.declared.Step.{Step}
+use Rattle.recipes.specs.declared.Step.the-variants.{Signal, Erode, Dilate, Open, Close, Rank, Median, Larger, Smaller}
+use Rattle.recipes.specs.Machine.{added, replaced, joined}
+use Rattle.rows.specs.declared.Change.the-variants.{Stretch, OpenOrClose, Select}
+use Rattle.rows.specs.Sizes.{longestRow}
+use Rattle.rows.specs.Rows.{widened, paired}
+use Rattle.rows.specs.Changes.{afterChange, Sound}
 use Rattle.runner.specs.declared.Work.{Work}
-use Rattle.runner.specs.declared.Work.the-variants as work
-use Rattle.runner.specs.Rows.{widened, part, paired, changed, Proper}
+use Rattle.runner.specs.declared.Work.the-variants.{Add, Change, Join}
 
--- ---- the work of a step
+-- what a step makes of the stack
+abbrev pub workOf : Step → Work
+workOf Signal = Add
+workOf (Erode B) = Change (Stretch B false)
+workOf (Dilate B) = Change (Stretch B true)
+workOf (Open B) = Change (OpenOrClose B false)
+workOf (Close B) = Change (OpenOrClose B true)
+workOf (Rank k B) = Change (Select B k)
+workOf (Median B) = Change (Select B ((size window B + 1) / 2))
+workOf Larger = Join true
+workOf Smaller = Join false
 
--- steps 1 to 6
-abbrev pub changeOf : theory.Change → Change
-changeOf (erode B) = Stretch B false
-changeOf (dilate B) = Stretch B true
-changeOf (opening B) = Double B false
-changeOf (closing B) = Double B true
-changeOf (rank k B) = Select B k
-changeOf (median B) = Select B ((size nine B + 1) / 2)
+-- what such a work makes of some rows, the last one first, on a scan s with l left of it and r right of it
+abbrev pub worked : Work → ℕ → ℕ → List ℕ → List (List ℕ) → Option (List (List ℕ))
+worked Add l r s st = added (widened reach l r s) st
+worked (Change by) l r s st = replaced (afterChange by l r) st
+worked (Join high) l r s st = joined (λ under last. paired high last under) st
 
-abbrev pub workOf : theory.Step → Work
-workOf signal = work.Add
-workOf (one c) = work.Change (changeOf c)
-workOf join = work.Join true
-workOf meet = work.Join false
-
--- ---- the rows held
+-- h rows are as many as the work takes, no ninth is added, and a change is a sound one
+abbrev pub Ready : Work → ℕ → Type 0
+Ready Add h = h < mostSignals
+Ready (Change by) h = (0 < h) × Sound by
+Ready (Join high) h = 1 < h
 
 -- the h rows of m values from a list's start on, the last one first
 unfoldable pub rowsIn : ℕ → ℕ → List ℕ → List (List ℕ)
 rowsIn m zero l = []
-rowsIn m (suc h) l = part m (h * m) l ∷ rowsIn m h l
+rowsIn m (suc h) l = take m (drop (h * m) l) ∷ rowsIn m h l
 
--- the last row replaced
-abbrev pub replaced : Change → List (List ℕ) → List (List ℕ)
-replaced c [] = []
-replaced c (a ∷ st) = changed c a ∷ st
+-- the stack has room for a row to each signal
+abbrev pub stackSize : ℕ
+stackSize = mostSignals * longestRow
 
--- the last two rows replaced by one
-abbrev pub joined : Bool → List (List ℕ) → List (List ℕ)
-joined high [] = []
-joined high (a ∷ []) = []
-joined high (a ∷ b ∷ st) = paired high b a ∷ st
-
--- what a work makes of the rows held, on the scan s
-abbrev pub stacked : Work → List ℕ → List (List ℕ) → List (List ℕ)
-stacked work.Add s st = widened 4 s ∷ st
-stacked (work.Change c) s st = replaced c st
-stacked (work.Join high) s st = joined high st
-
--- as many rows are held as a work takes, no ninth is added, and a change is a proper one
-abbrev pub Ready : Work → ℕ → Type 0
-Ready work.Add h = h < 8
-Ready (work.Change c) h = (0 < h) × Proper c
-Ready (work.Join high) h = 1 < h
-
--- room for eight rows of m values, of which h are held, and for one row widened by 8
-pub record Holding (m : ℕ) (held room : List ℕ) (h : ℕ) : Type 0 where
-  pub some : 0 < m
-  pub most : m ≤ 2056
-  pub deep : 8 * m ≤ length held
-  pub wide : length room ≡ m + 16
-  pub few : h ≤ 8
+-- a stack that holds h rows of m values
+pub record Stack (m : ℕ) (stack : List ℕ) (h : ℕ) : Type 0 where
+  pub short : m ≤ longestRow
+  pub deep : length stack ≡ stackSize
+  pub few : h ≤ mostSignals

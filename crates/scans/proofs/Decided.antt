@@ -5,14 +5,17 @@ use mathlib.Core.Path.{_≡_, sym, _∙_}
 use mathlib.Core.List.{List}
 use lib.IntN.{ℤ}
 use Rattle.refusals.specs.declared.Answer.{Answer}
+use Rattle.refusals.proofs.Decided.{gives-decided}
 use Rattle.scans.specs.declared.RootAnswer.{RootAnswer}
-use Rattle.scans.specs.Run.{Ran, Resided, Rooted}
+use Rattle.scans.specs.Run.{Clean, Residue, Root}
 
-pub clean-decided : (ts s old new new′ : List ℕ) (r r′ : Answer) → Ran ts s old new r → Ran ts s old new′ r′ → (r ≡ r′) × (new ≡ new′)
-clean-decided ts s old new new′ r r′ a b = (a .answer ∙ sym (b .answer), a .out ∙ sym (b .out))
+module _ (ts s : List ℕ) where
+  pub clean-decided : (old new new′ : List ℕ) (r r′ : Answer) → Clean ts s old new r → Clean ts s old new′ r′ → (r ≡ r′) × (new ≡ new′)
+  clean-decided old new new′ r r′ a b = gives-decided a b
 
-pub residue-decided : (ts s : List ℕ) (old new new′ : List ℤ) (r r′ : Answer) → Resided ts s old new r → Resided ts s old new′ r′ → (r ≡ r′) × (new ≡ new′)
-residue-decided ts s old new new′ r r′ a b = (a .answer ∙ sym (b .answer), a .out ∙ sym (b .out))
+  pub residue-decided : (old new new′ : List ℤ) (r r′ : Answer) → Residue ts s old new r → Residue ts s old new′ r′
+      → (r ≡ r′) × (new ≡ new′)
+  residue-decided old new new′ r r′ a b = gives-decided a b
 
-pub root-decided : (ts s : List ℕ) (r r′ : RootAnswer) → Rooted ts s r → Rooted ts s r′ → r ≡ r′
-root-decided ts s r r′ a b = a .answer ∙ sym (b .answer)
+  pub root-decided : (r r′ : RootAnswer) → Root ts s r → Root ts s r′ → r ≡ r′
+  root-decided r r′ a b = a ∙ sym b

@@ -1,5 +1,5 @@
 -- Laws behind the runs, and what a reader of residues relies on.
-pub mod Counts
+pub mod Fills
 pub mod Windows
 pub mod Residues
 pub mod Fine

@@ -1,3 +1,3 @@
 -- What the contracts of the runs cite.
-pub mod Window
 pub mod Run
+pub mod Around

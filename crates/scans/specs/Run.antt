@@ -3,16 +3,17 @@ use mathlib.Core.Path.{_≡_}
 use mathlib.Core.Bool.{Bool, not, cond}
 use mathlib.Core.List.{List}
 use Prim.Native.Nat.{ℕ}
-use lib.Dec.{eqb, ltb}
+use lib.Dec.{eqb}
 use lib.ListN.{length, getD}
 use lib.IntN.{ℤ}
-use Rattle.theory.specs.Lists.{first, tab}
-use Rattle.theory.specs.Signals.{cleaned, filteredAt, residueAt}
-use Rattle.refusals.specs.Refusals.{orElse, answerOf, written}
-use Rattle.refusals.specs.Limits.{scanChecked, lentChecked}
+use Rattle.limits.specs.Limits.{width, mostSamples}
+use Rattle.theory.specs.Lists.{first, anyBelow, tab}
+use Rattle.theory.specs.Signals.{Ends, held, cleaned, filteredAt, residueAt}
+use Rattle.refusals.specs.Refusals.{orElse, answered}
+use Rattle.refusals.specs.Shared.{scanChecked, lentChecked}
+use Rattle.refusals.specs.Promise.{Gives}
 use Rattle.refusals.specs.declared.Answer.{Answer}
 use Rattle.refusals.specs.declared.Checked.{Checked}
-use Rattle.refusals.specs.declared.Checked.the-variants as checked
 use Rattle.forms.specs.Check.{formChecked}
 use Rattle.scans.specs.declared.RootAnswer.{RootAnswer}
 use Rattle.scans.specs.declared.RootAnswer.the-variants as root
@@ -21,39 +22,34 @@ use Rattle.scans.specs.declared.RootAnswer.the-variants as root
 
 -- root question: 7, 8, 9
 unfoldable pub rootChecked : List ℕ → List ℕ → Checked
-rootChecked ts s = orElse (formChecked ts) (scanChecked (length s))
+rootChecked ts s = orElse (formChecked width ts) (scanChecked mostSamples (length s))
 
--- running a form, or its residue: 7, 8, 9, 10
+-- running a form, or its residue, with so many elements lent: 7, 8, 9, 10
 unfoldable pub runChecked : List ℕ → List ℕ → ℕ → Checked
-runChecked ts s lent = orElse (formChecked ts) (orElse (scanChecked (length s)) (lentChecked (length s) lent))
+runChecked ts s lent = orElse (formChecked width ts) (orElse (scanChecked mostSamples (length s)) (lentChecked (length s) lent))
 
 -- ---- what the calls answer and write
 
 -- a run: the filter at each sample
-pub record Ran (ts s old new : List ℕ) (r : Answer) : Type 0 where
-  pub answer : r ≡ answerOf (runChecked ts s (length old)) (length s)
-  pub out : new ≡ written (runChecked ts s (length old)) (cleaned ts s) old
+abbrev pub Clean : List ℕ → List ℕ → List ℕ → List ℕ → Answer → Type 0
+Clean ts s old new r = Gives (runChecked ts s) (length s) (cleaned held ts s) old new r
 
--- a residue: raw minus cleaned at each sample
-unfoldable pub residues : List ℕ → List ℕ → List ℤ
-residues ts s = tab (length s) (residueAt ts s)
+-- raw minus cleaned at each sample
+unfoldable pub residues : Ends → List ℕ → List ℕ → List ℤ
+residues ends ts s = tab (length s) (residueAt ends ts s)
 
-pub record Resided (ts s : List ℕ) (old new : List ℤ) (r : Answer) : Type 0 where
-  pub answer : r ≡ answerOf (runChecked ts s (length old)) (length s)
-  pub out : new ≡ written (runChecked ts s (length old)) (residues ts s) old
+-- a residue
+abbrev pub Residue : List ℕ → List ℕ → List ℤ → List ℤ → Answer → Type 0
+Residue ts s old new r = Gives (runChecked ts s) (length s) (residues held ts s) old new r
 
--- sample x is not its filtered value
-unfoldable pub differs : List ℕ → List ℕ → ℕ → Bool
-differs ts s x = not (eqb (getD s x 0) (filteredAt ts s x))
+-- sample x is not what f makes of it
+unfoldable pub differs : (ℕ → ℕ) → List ℕ → ℕ → Bool
+differs f s x = not (eqb (getD s x 0) (f x))
 
 -- the first sample that differs, where one does
-unfoldable pub rootFound : List ℕ → List ℕ → RootAnswer
-rootFound ts s = cond (ltb (first (differs ts s) (length s)) (length s)) (root.Differs (first (differs ts s) (length s))) root.Root
+unfoldable pub rootFound : (ℕ → ℕ) → List ℕ → RootAnswer
+rootFound f s = cond (anyBelow (differs f s) (length s)) (root.Differs (first (differs f s) (length s))) root.Root
 
--- the root question's answer
-abbrev pub rootAnswerOf : Checked → RootAnswer → RootAnswer
-rootAnswerOf checked.Fine found = found
-rootAnswerOf (checked.Refused r) found = root.Refused r
-
-pub record Rooted (ts s : List ℕ) (r : RootAnswer) : Type 0 where
-  pub answer : r ≡ rootAnswerOf (rootChecked ts s) (rootFound ts s)
+-- the root question: is each sample its filtered value?
+abbrev pub Root : List ℕ → List ℕ → RootAnswer → Type 0
+Root ts s r = r ≡ answered (rootChecked ts s) (rootFound (filteredAt held ts s) s) root.Refused

@@ -1,6 +1,10 @@
 // Truth tables: a table of 64 bytes to its form, and a form to its table.
 //
 // Bit v mod 8 of byte v / 8 is the value on pattern v. No public function has a `requires`, and nothing is assumed.
+use limits::BYTE_BITS;
+use limits::PATTERNS;
+use limits::TABLE_BYTES;
+use limits::WIDTH;
 use refusals::Answer;
 use refusals::Checked;
 use refusals::Refusal;
@@ -9,61 +13,48 @@ ghost use mathlib.Core.Bool.{true, false, not, cond, _&&_};
 ghost use mathlib.Core.List.{_++_};
 ghost use Prim.Native.Nat.{_+_, _-_, _*_, _^_, _<_, _≤_};
 ghost use lib.ListN.{length, drop, set};
-ghost use Rattle.theory.specs.Lists.{bit, first, some};
-ghost use Rattle.theory.specs.Sets.{has, gather, with-place};
+ghost use Rattle.limits.specs.Limits.{width, patterns, byteBits, tableBytes};
+ghost use Rattle.theory.specs.Lists.{bit, first, anyBelow};
+ghost use Rattle.theory.specs.Sets.{has, gather, with-position};
 ghost use Rattle.theory.specs.Forms.{holds, minimal};
 ghost use Rattle.theory.specs.Tables.{tableAt, slips};
-ghost use Rattle.tables.specs.Tables.{formIn, tableIn, bytesChecked, tableChecked, formTabledChecked, Formed, Tabled};
+ghost use Rattle.tables.specs.Tables.{formIn, tableIn, bytesChecked, tableToFormChecked, formToTableChecked};
+ghost use Rattle.tables.specs.Tables.{TableToForm, FormToTable};
 
 // What position i is worth.
 fn worth(i: usize) -> usize
-    requires { ⌜ i < 9 ⌝ }
+    requires { ⌜ i < width ⌝ }
     ensures { λ r. ⌜ r ≡ 2 ^ i ⌝ }
 {
     1 << i
 }
 
-// Whether position i is in v.
-fn has_place(v: usize, i: usize) -> bool
-    requires { ⌜ i < 9 ⌝ }
-    ensures { λ r. ⌜ r ≡ has v i ⌝ }
-{
-    (v >> i) % 2 == 1
-}
-
-// A truth value as a number.
-fn one(b: bool) -> usize
-    ensures { λ r. ⌜ (r ≡ bit b) × (r ≤ 1) ⌝ }
-{
-    if b { 1 } else { 0 }
-}
-
 // The table's value on the pattern v.
 fn value_on(table: &[u8], v: usize) -> bool
-    requires { ⌜ (length (now table) ≡ 64) × (v < 512) ⌝ }
+    requires { ⌜ (length (now table) ≡ tableBytes) × (v < patterns) ⌝ }
     ensures { λ r. ⌜ r ≡ tableAt (now (table .entry)) v ⌝ }
 {
-    (table[v / 8] >> (v % 8)) % 2 == 1
+    bits::has(table[v / BYTE_BITS] as usize, v % BYTE_BITS)
 }
 
-// Whether the value is 0 on v with the offset i too.
+// Whether the value is 0 on v with the position i too.
 fn loses_with(table: &[u8], v: usize, i: usize) -> bool
-    requires { ⌜ (length (now table) ≡ 64) × (v < 512) × (i < 9) ⌝ }
-    ensures { λ r. ⌜ r ≡ not (tableAt (now (table .entry)) (with-place v i)) ⌝ }
+    requires { ⌜ (length (now table) ≡ tableBytes) × (v < patterns) × (i < width) ⌝ }
+    ensures { λ r. ⌜ r ≡ not (tableAt (now (table .entry)) (with-position v i)) ⌝ }
 {
     !value_on(table, v | worth(i))
 }
 
-// Whether the value is 1 on v and one more offset turns it to 0.
+// Whether the value is 1 on v and one more position turns it to 0.
 fn slips_on(table: &[u8], v: usize) -> bool
-    requires { ⌜ (length (now table) ≡ 64) × (v < 512) ⌝ }
-    ensures { λ r. ⌜ r ≡ slips 9 (tableAt (now (table .entry))) v ⌝ }
+    requires { ⌜ (length (now table) ≡ tableBytes) × (v < patterns) ⌝ }
+    ensures { λ r. ⌜ r ≡ slips width (tableAt (now (table .entry))) v ⌝ }
 {
     if !value_on(table, v) {
         return false;
     }
     let mut i: usize = 0;
-    while i < 9 {
+    while i < WIDTH {
         if loses_with(table, v, i) {
             return true;
         }
@@ -72,42 +63,46 @@ fn slips_on(table: &[u8], v: usize) -> bool
     false
 }
 
-// The least pattern on which the table slips, 512 where there is none.
+// The least pattern on which the table slips; the number of patterns where there is none.
 fn first_slip(table: &[u8]) -> usize
-    requires { ⌜ length (now table) ≡ 64 ⌝ }
-    ensures { λ r. ⌜ r ≡ first (slips 9 (tableAt (now (table .entry)))) 512 ⌝ }
+    requires { ⌜ length (now table) ≡ tableBytes ⌝ }
+    ensures { λ r. ⌜ r ≡ first (slips width (tableAt (now (table .entry)))) patterns ⌝ }
 {
     let mut v: usize = 0;
-    while v < 512 {
+    while v < PATTERNS {
         if slips_on(table, v) {
             return v;
         }
         v += 1;
     }
-    512
+    PATTERNS
 }
 
-// Whether v has the offset i and the value is 1 without it.
+// Whether v has the position i and the value is 1 without it.
 fn keeps_without(table: &[u8], v: usize, i: usize) -> bool
-    requires { ⌜ (length (now table) ≡ 64) × (v < 512) × (i < 9) ⌝ }
+    requires { ⌜ (length (now table) ≡ tableBytes) × (v < patterns) × (i < width) ⌝ }
     ensures { λ r. ⌜ r ≡ (has v i && tableAt (now (table .entry)) (v - 2 ^ i)) ⌝ }
 {
-    if has_place(v, i) {
+    if bits::has(v, i) {
         return value_on(table, v - worth(i));
     }
     false
 }
 
-// Whether v is a term of the table's form. One offset less is enough to look at, since the table never slips.
+// Whether v is a term of the table's form. One position less is enough to look at, since the table never slips.
 fn is_term(table: &[u8], v: usize) -> bool
-    requires { ⌜ (length (now table) ≡ 64) × (v < 512) × (some (slips 9 (tableAt (now table))) 512 ≡ false) ⌝ }
+    requires { ⌜
+        (length (now table) ≡ tableBytes)
+        × (v < patterns)
+        × (anyBelow (slips width (tableAt (now table))) patterns ≡ false)
+        ⌝ }
     ensures { λ r. ⌜ r ≡ minimal (tableAt (now (table .entry))) v ⌝ }
 {
     if !value_on(table, v) {
         return false;
     }
     let mut i: usize = 0;
-    while i < 9 {
+    while i < WIDTH {
         if keeps_without(table, v, i) {
             return false;
         }
@@ -118,22 +113,23 @@ fn is_term(table: &[u8], v: usize) -> bool
 
 // How many terms the table's form has.
 fn count_terms(table: &[u8]) -> usize
-    requires { ⌜ (length (now table) ≡ 64) × (some (slips 9 (tableAt (now table))) 512 ≡ false) ⌝ }
+    requires { ⌜ (length (now table) ≡ tableBytes) × (anyBelow (slips width (tableAt (now table))) patterns ≡ false) ⌝ }
     ensures { λ r. ⌜ r ≡ length (formIn (now (table .entry))) ⌝ }
 {
     let mut count: usize = 0;
     let mut v: usize = 0;
-    while v < 512 {
-        count += one(is_term(table, v));
+    while v < PATTERNS {
+        count += bits::bit(is_term(table, v));
         v += 1;
     }
     count
 }
 
-// Puts v at n where it is kept, and answers the next place.
+// Puts v at n where it is kept, and answers the next index.
 fn put(terms: &mut [u16], n: usize, v: usize, kept: bool) -> usize
-    requires { ⌜ (kept ≡ true → n < length (now terms)) × (v < 512) ⌝ }
-    ensures { λ r. ⌜ (r ≡ n + bit kept) × (now (terms .exit) ≡ cond kept (set (now (terms .entry)) n v) (now (terms .entry))) ⌝ }
+    requires { ⌜ (kept ≡ true → n < length (now terms)) × (v < patterns) ⌝ }
+    ensures { λ r. ⌜ r ≡ n + bit kept ⌝ }
+    ensures { λ _. ⌜ now (terms .exit) ≡ cond kept (set (now (terms .entry)) n v) (now (terms .entry)) ⌝ }
 {
     if kept {
         terms[n] = v as u16;
@@ -144,13 +140,19 @@ fn put(terms: &mut [u16], n: usize, v: usize, kept: bool) -> usize
 
 // Writes the table's form from the start of a slice that has room, and answers its number of terms.
 fn fill_terms(table: &[u8], terms: &mut [u16]) -> usize
-    requires { ⌜ (length (now table) ≡ 64) × (some (slips 9 (tableAt (now table))) 512 ≡ false) × (length (formIn (now table)) ≤ length (now terms)) ⌝ }
+    requires { ⌜
+        (length (now table) ≡ tableBytes)
+        × (anyBelow (slips width (tableAt (now table))) patterns ≡ false)
+        × (length (formIn (now table)) ≤ length (now terms))
+        ⌝ }
     ensures { λ r. ⌜ r ≡ length (formIn (now (table .entry))) ⌝ }
-    ensures { λ _. ⌜ now (terms .exit) ≡ formIn (now (table .entry)) ++ drop (length (formIn (now (table .entry)))) (now (terms .entry)) ⌝ }
+    ensures { λ _. ⌜
+        now (terms .exit) ≡ formIn (now (table .entry)) ++ drop (length (formIn (now (table .entry)))) (now (terms .entry))
+        ⌝ }
 {
     let mut n: usize = 0;
     let mut v: usize = 0;
-    while v < 512 {
+    while v < PATTERNS {
         n = put(terms, n, v, is_term(table, v));
         v += 1;
     }
@@ -161,19 +163,22 @@ fn fill_terms(table: &[u8], terms: &mut [u16]) -> usize
 fn check_bytes(lent: usize) -> Checked
     ensures { λ r. ⌜ r ≡ bytesChecked lent ⌝ }
 {
-    refusals::refuse_if(lent != 64, Refusal::TableLength(lent))
+    refusals::refuse_if(lent != TABLE_BYTES, refusals::TABLE_LENGTH, lent)
 }
 
 // What table to form refuses, with so many elements lent for terms: 13, 12, 6.
 fn admit_table(table: &[u8], lent: usize) -> Checked
-    ensures { λ r. ⌜ r ≡ tableChecked (now (table .entry)) lent ⌝ }
+    ensures { λ r. ⌜ r ≡ tableToFormChecked (now (table .entry)) lent ⌝ }
 {
-    if table.len() != 64 {
-        return Checked::Refused(Refusal::TableLength(table.len()));
+    if table.len() != TABLE_BYTES {
+        return check_bytes(table.len());
     }
     let v = first_slip(table);
-    if v < 512 {
-        return Checked::Refused(Refusal::NotPositive(v));
+    if v < PATTERNS {
+        return Checked::Refused(Refusal {
+            number: refusals::NOT_POSITIVE,
+            place: v,
+        });
     }
     let needed = count_terms(table);
     refusals::check_room(needed, lent)
@@ -182,7 +187,7 @@ fn admit_table(table: &[u8], lent: usize) -> Checked
 // A truth table to its form: answers the number of terms, and writes the form from the start of `terms`.
 // Refuses 13 where the table is not 64 bytes, 12 where it is not positive, 6 where fewer elements are lent than the form has terms.
 pub fn table_to_form(table: &[u8], terms: &mut [u16]) -> Answer
-    ensures { λ r. ⌜ Formed (now (table .entry)) (now (terms .entry)) (now (terms .exit)) r ⌝ }
+    ensures { λ r. ⌜ TableToForm (now (table .entry)) (now (terms .entry)) (now (terms .exit)) r ⌝ }
 {
     let checked = admit_table(table, terms.len());
     if let Checked::Refused(refusal) = checked {
@@ -197,7 +202,7 @@ fn holds_on(terms: &[u16], v: u16) -> bool
 {
     let mut i = 0;
     while i < terms.len() {
-        if forms::is_within(terms[i], v) {
+        if bits::is_within(terms[i], v) {
             return true;
         }
         i += 1;
@@ -205,27 +210,27 @@ fn holds_on(terms: &[u16], v: u16) -> bool
     false
 }
 
-// Byte j of the form's table, from its highest bit down.
+// Byte j of the form's table.
 fn byte_of(terms: &[u16], j: usize) -> u8
-    requires { ⌜ j < 64 ⌝ }
-    ensures { λ r. ⌜ r ≡ gather 8 (λ i. holds (now (terms .entry)) (8 * j + i)) ⌝ }
+    requires { ⌜ j < tableBytes ⌝ }
+    ensures { λ r. ⌜ r ≡ gather byteBits (λ i. holds (now (terms .entry)) (byteBits * j + i)) ⌝ }
 {
-    let mut byte: usize = 0;
-    let mut i: usize = 8;
-    while 0 < i {
-        i -= 1;
-        byte = byte * 2 + one(holds_on(terms, (8 * j + i) as u16));
+    let mut values = [false; BYTE_BITS];
+    let mut i: usize = 0;
+    while i < BYTE_BITS {
+        values[i] = holds_on(terms, (BYTE_BITS * j + i) as u16);
+        i += 1;
     }
-    byte as u8
+    bits::byte(values)
 }
 
 // Writes the form's table.
 fn fill_table(terms: &[u16], table: &mut [u8])
-    requires { ⌜ length (now table) ≡ 64 ⌝ }
+    requires { ⌜ length (now table) ≡ tableBytes ⌝ }
     ensures { λ _. ⌜ now (table .exit) ≡ tableIn (now (terms .entry)) ⌝ }
 {
     let mut j: usize = 0;
-    while j < 64 {
+    while j < TABLE_BYTES {
         table[j] = byte_of(terms, j);
         j += 1;
     }
@@ -233,15 +238,15 @@ fn fill_table(terms: &[u16], table: &mut [u8])
 
 // What form to table refuses, with so many bytes lent for the table: 7, 8, 13.
 fn admit_form(terms: &[u16], lent: usize) -> Checked
-    ensures { λ r. ⌜ r ≡ formTabledChecked (now (terms .entry)) lent ⌝ }
+    ensures { λ r. ⌜ r ≡ formToTableChecked (now (terms .entry)) lent ⌝ }
 {
-    refusals::or_else(forms::check(terms), check_bytes(lent))
+    refusals::or_else(forms::check(WIDTH, terms), check_bytes(lent))
 }
 
 // A form to its truth table: answers the number of terms, and writes the table.
 // Refuses 7 and 8 where the terms are no form, 13 where the table lent is not 64 bytes.
 pub fn form_to_table(terms: &[u16], table: &mut [u8]) -> Answer
-    ensures { λ r. ⌜ Tabled (now (terms .entry)) (now (table .entry)) (now (table .exit)) r ⌝ }
+    ensures { λ r. ⌜ FormToTable (now (terms .entry)) (now (table .entry)) (now (table .exit)) r ⌝ }
 {
     let checked = admit_form(terms, table.len());
     if let Checked::Refused(refusal) = checked {

@@ -1,7 +1,7 @@
 -- Valid forms: the form of a positive function has that function, and a valid form is the only one with its function.
 -- Assumes nothing.
 use mathlib.Core.Path.{_≡_, refl, sym, ap, ap₂, _∙_, subst}
-use mathlib.Core.Bool.{Bool, true, false, not, _&&_, _||_}
+use mathlib.Core.Bool.{Bool, true, false, not, _&&_}
 use mathlib.Core.List.{List, [], _∷_, List·Memᴰ, List·Memᴰ·head, List·Memᴰ·tail, List·Memᴰ·cases-cons}
 use mathlib.Core.Logic.{_⊎_, inl, inr}
 use Prim.Native.Nat.{ℕ, zero, suc, _+_, _^_, _≤_, _<_, zero-le}
@@ -40,7 +40,8 @@ minimal-less : (f : ℕ → Bool) (v : ℕ) → f v ≡ true → minimal f v ≡
 unfolding minimal
 minimal-less f v p e = go (which (any (λ u. f u && within u v) (from 0 v)))
   where
-    go : (any (λ u. f u && within u v) (from 0 v) ≡ true) ⊎ (any (λ u. f u && within u v) (from 0 v) ≡ false) → (u : ℕ) × (u < v) × (f u ≡ true) × (within u v ≡ true)
+    go : (any (λ u. f u && within u v) (from 0 v) ≡ true) ⊎ (any (λ u. f u && within u v) (from 0 v) ≡ false)
+        → (u : ℕ) × (u < v) × (f u ≡ true) × (within u v ≡ true)
     go (inl q) =
         let r = any-at (λ u. f u && within u v) (from 0 v) q in
         (r .0, omega (arith, from-at 0 v (r .1)), and-left (f (r .0)) _ (r .2), and-right (f (r .0)) _ (r .2))
@@ -159,7 +160,8 @@ module _ (w : ℕ) (f : ℕ → Bool) where
   step v b p below = go (which (minimal f v))
     where
       go : (minimal f v ≡ true) ⊎ (minimal f v ≡ false) → holds (formOf w f) v ≡ true
-      go (inl e) = unfold holds in any-by (λ m. within m v) (keep-mem (minimal f) (from-mem 0 (2 ^ w) zero-le (omega arith)) e) (within-refl v)
+      go (inl e) =
+          unfold holds in any-by (λ m. within m v) (keep-mem (minimal f) (from-mem 0 (2 ^ w) zero-le (omega arith)) e) (within-refl v)
       go (inr e) = let r = minimal-less f v p e in holds-up (formOf w f) (r .0) v (r .3) (below (r .0) (r .1) (r .2))
 
   descend : (n v : ℕ) → v < n → v < 2 ^ w → f v ≡ true → holds (formOf w f) v ≡ true
@@ -181,13 +183,15 @@ module _ (w : ℕ) (f : ℕ → Bool) where
   form-valid-from zero a b = tt
   form-valid-from (suc n) a b = go (which (minimal f a)) (form-valid-from n (suc a) (omega arith))
     where
-      go : (minimal f a ≡ true) ⊎ (minimal f a ≡ false) → Valid w (keep (minimal f) (from (suc a) n)) → Valid w (put (minimal f a) a (keep (minimal f) (from (suc a) n)))
+      go : (minimal f a ≡ true) ⊎ (minimal f a ≡ false) → Valid w (keep (minimal f) (from (suc a) n))
+          → Valid w (put (minimal f a) a (keep (minimal f) (from (suc a) n)))
       go (inl e) ih = rw e (omega arith, λ k i. later k (keep-at (minimal f) (from (suc a) n) i), ih)
         where
           later : (k : ℕ) → List·Memᴰ k (from (suc a) n) × (minimal f k ≡ true) → (a < k) × (within a k ≡ false)
           later k r = (omega (arith, from-at (suc a) n (r .0)), no-within k r (which (within a k)))
             where
-              no-within : (k : ℕ) → List·Memᴰ k (from (suc a) n) × (minimal f k ≡ true) → (within a k ≡ true) ⊎ (within a k ≡ false) → within a k ≡ false
+              no-within : (k : ℕ) → List·Memᴰ k (from (suc a) n) × (minimal f k ≡ true) → (within a k ≡ true) ⊎ (within a k ≡ false)
+                  → within a k ≡ false
               no-within k r (inl q) = absurd (minimal-none f a k (r .1) (omega (arith, from-at (suc a) n (r .0))) (minimal-one f a e) q)
               no-within k r (inr q) = q
       go (inr e) ih = rw e ih
@@ -208,7 +212,8 @@ sound-valid w [] e = tt
 sound-valid w (m ∷ f) e =
     let r = and-right (ltb m (2 ^ w)) _ e in (
       ltb-true m (2 ^ w) (and-left _ _ e),
-      λ k i. (let q = all-at (λ k. ltb m k && not (within m k)) (and-left _ _ r) i in (ltb-true m k (and-left _ _ q), not-true _ (and-right (ltb m k) _ q))),
+      λ k i. (let q = all-at (λ k. ltb m k && not (within m k)) (and-left _ _ r) i in
+          (ltb-true m k (and-left _ _ q), not-true _ (and-right (ltb m k) _ q))),
       sound-valid w f (and-right (all (λ k. ltb m k && not (within m k)) f) _ r),
     )
 
@@ -228,5 +233,7 @@ isForm w f F = sound w F && all (λ v. alike (f v) (holds F v)) (from 0 (2 ^ w))
 pub is-form : (w : ℕ) (f : ℕ → Bool) (F : List ℕ) → isForm w f F ≡ true → formOf w f ≡ F
 unfolding isForm
 is-form w f F e =
-    form-cong w f (holds F) (λ v l. alike-is (f v) (holds F v) (all-at (λ v. alike (f v) (holds F v)) (and-right (sound w F) _ e) (from-mem 0 (2 ^ w) zero-le (omega arith))))
+    form-cong w f (holds F)
+    (λ v l. alike-is (f v) (holds F v)
+    (all-at (λ v. alike (f v) (holds F v)) (and-right (sound w F) _ e) (from-mem 0 (2 ^ w) zero-le (omega arith))))
     ∙ form-of-holds w F (sound-valid w F (and-left (sound w F) _ e))

@@ -1,79 +1,77 @@
 -- Demand 3 for the base's scans: the form of a plan filters every scan as the plan means, and two plans have one form exactly where they
--- agree on every scan of 1 to 16,384 samples. And demand 2's count of levels as the largest of the smallest.
+-- agree on every scan. And demand 2's count of levels as the largest of the smallest. Each by either ends rule.
 -- Assumes nothing.
 use mathlib.Core.Path.{_≡_, _∙_}
-use mathlib.Core.Bool.{Bool}
 use mathlib.Core.List.{List}
-use Prim.Native.Nat.{ℕ, _*_, _-_, _≤_, _<_, min}
+use Prim.Native.Nat.{ℕ, _≤_, _<_, zero-le}
 use native.Mathlib.Omega.{arith}
-use lib.IntN.{ℤ, pos, negsuc, _+ℤ_}
+use lib.IntN.{ℤ, pos, _+ℤ_}
 use lib.ListN.{length, getD}
-use Rattle.theory.specs.Lists.{bit}
-use Rattle.theory.specs.Sets.{has}
+use Rattle.limits.specs.Limits.{reach, width, top}
 use Rattle.theory.specs.Orders.{counts}
 use Rattle.theory.specs.Forms.{value, levels, formOf}
-use Rattle.theory.specs.Signals.{held, endless, Scan, endlessScan, nine, row, seen, filteredAt}
+use Rattle.theory.specs.Signals.{Ends, endless, Scan, window, wide, offset, seen, filteredAt}
 use Rattle.theory.specs.Plans.{Plan, meaning, truth}
-use Rattle.theory.proofs.Lists.{length-tab, getD-tab-default, bit-lt, tally-le}
-use Rattle.theory.proofs.Orders.{counts-strict}
+use Rattle.theory.proofs.Lists.{tally-le}
+use Rattle.theory.proofs.Orders.{counts-lawful, counts-strict}
 use Rattle.theory.proofs.Forms.{Terms, levels-value}
 use Rattle.theory.proofs.Canon.{form-valid, valid-terms}
-use Rattle.theory.proofs.Signals.{nine-fair}
+use Rattle.theory.proofs.Signals.{endless-from, window-fair}
 use Rattle.theory.proofs.Truth.{Fits, plan-form}
-use Rattle.theory.proofs.Scans.{shown, same-meaning, same-forms}
+use Rattle.theory.proofs.Scans.{showing, length-showing, showing-le, same-meaning, same-forms}
 
 -- every sample is 0 to 65,535
 abbrev pub Samples : List ℕ → Type 0
-Samples s = (i : ℕ) → getD s i 0 ≤ 65535
+Samples s = (i : ℕ) → getD s i 0 ≤ top
 
-pub endless-small : (s : List ℕ) → Samples s → (y : ℤ) → endlessScan s y ≤ 65535
-unfolding endlessScan endless
-endless-small s h (pos n) = h (min n (length s - 1))
-endless-small s h (negsuc n) = h 0
+module _ (ends : Ends) where
+  -- so is every value of the endless signal
+  pub endless-small : (s : List ℕ) → Samples s → (y : ℤ) → endless 0 ends s y ≤ top
+  endless-small s h = endless-from 0 (λ v. v ≤ top) ends s zero-le h
 
--- the count of levels is the largest, over the terms, of the smallest sample that the term reaches
-pub filtered-value : (F s : List ℕ) → Terms 9 F → Samples s → (x : ℕ)
-    → filteredAt F s x ≡ value counts 9 0 65535 F (seen nine (endlessScan s) (pos x))
-unfolding filteredAt seen
-filtered-value F s ok h x = levels-value 9 65535 F _ ok (λ i. endless-small s h (pos x +ℤ nine .offset i))
+  -- the count of levels is the largest, over the terms, of the smallest sample that the term reaches
+  pub filtered-value : (F s : List ℕ) → Terms width F → Samples s → (x : ℕ)
+      → filteredAt ends F s x ≡ value counts width 0 top F (seen window (endless 0 ends s) (pos x))
+  unfolding filteredAt seen
+  filtered-value F s ok h x = levels-value width top F _ ok (λ i. endless-small s h (pos x +ℤ offset window i))
 
--- every filtered value is 0 to 65,535
-pub filtered-le : (F s : List ℕ) (x : ℕ) → filteredAt F s x ≤ 65535
-unfolding filteredAt levels
-filtered-le F s x = tally-le 65535 _
+  -- every filtered value is 0 to 65,535
+  pub filtered-le : (F s : List ℕ) (x : ℕ) → filteredAt ends F s x ≤ top
+  unfolding filteredAt levels
+  filtered-le F s x = tally-le top _
 
-pub plan-filter : (e : Plan) → Fits nine e → (s : List ℕ) → Samples s → (x : ℕ)
-    → filteredAt (formOf 9 (truth nine e)) s x ≡ meaning counts e (endlessScan s) (pos x)
-unfolding nine row
-plan-filter e ok s h x =
-    filtered-value (formOf 9 (truth nine e)) s (valid-terms 9 _ (form-valid 9 (truth nine e))) h x
-    ∙ plan-form nine nine-fair counts {P = λ v. v ≤ 65535} (λ a b p q. counts-strict a b) e ok 0 65535 (omega arith) (omega arith) (endlessScan s) (endless-small s h) (pos x)
+  pub plan-filter : (e : Plan) → Fits window e → (s : List ℕ) → Samples s → (x : ℕ)
+      → filteredAt ends (formOf width (truth window e)) s x ≡ meaning counts e (endless 0 ends s) (pos x)
+  unfolding window wide
+  plan-filter e ok s h x =
+      filtered-value (formOf width (truth window e)) s (valid-terms width _ (form-valid width (truth window e))) h x
+      ∙ plan-form window window-fair counts-lawful {P = λ v. v ≤ top} (λ a b p q. counts-strict a b) e ok 0 top (omega arith) (omega arith)
+      (endless 0 ends s) (endless-small s h) (pos x)
 
--- ---- two plans
+  -- ---- two plans
 
--- they give the same at every sample of every scan
-abbrev pub Agree : Plan → Plan → Type 0
-Agree e e′ = (s : List ℕ) → Scan s → (x : ℕ) → x < length s → meaning counts e (endlessScan s) (pos x) ≡ meaning counts e′ (endlessScan s) (pos x)
+  -- they give the same at every sample of every scan
+  abbrev pub Agree : Plan → Plan → Type 0
+  Agree e e′ =
+      (s : List ℕ) → Scan s → (x : ℕ) → x < length s → meaning counts e (endless 0 ends s) (pos x) ≡ meaning counts e′ (endless 0 ends s)
+      (pos x)
 
-module _ (e e′ : Plan) (ok : Fits nine e) (ok′ : Fits nine e′) where
-  pub same-form-agree : formOf 9 (truth nine e) ≡ formOf 9 (truth nine e′) → Agree e e′
-  unfolding nine row
-  same-form-agree q s h x l =
-      same-meaning 4 held 1 (omega arith) e e′ ok ok′ q counts {P = λ v. v ≤ 65535} (λ a b p q. counts-strict a b) (endlessScan s) (endless-small s (h .each)) (pos x)
+  module _ (e e′ : Plan) (ok : Fits window e) (ok′ : Fits window e′) where
+    pub same-form-agree : formOf width (truth window e) ≡ formOf width (truth window e′) → Agree e e′
+    unfolding window wide
+    same-form-agree q s h x l =
+        same-meaning window window-fair e e′ ok ok′ q counts-lawful {P = λ v. v ≤ top} (λ a b p q. counts-strict a b)
+        (endless 0 ends s) (endless-small s (h .small)) (pos x)
 
-  pub agree-same-form : Agree e e′ → formOf 9 (truth nine e) ≡ formOf 9 (truth nine e′)
-  unfolding nine row endlessScan
-  agree-same-form f = same-forms 4 held 1 (omega arith) e e′ ok ok′ (λ v b. f (shown 9 1 v) (is-scan v) 4 (rw (shown-length v) (omega arith)))
-    where
-      shown-length : (v : ℕ) → length (shown 9 1 v) ≡ 9
-      shown-length v = unfold shown in length-tab 9 (λ i. 1 * bit (has v i))
-
-      bit-small : (b : Bool) → 1 * bit b ≤ 65535
-      bit-small b = omega (arith, bit-lt b)
-
-      is-scan : (v : ℕ) → Scan (shown 9 1 v)
-      is-scan v = record {
-        some = rw (shown-length v) (omega arith);
-        most = rw (shown-length v) (omega arith);
-        each = λ i. unfold shown in getD-tab-default (λ n. n ≤ 65535) 0 9 (λ i. 1 * bit (has v i)) (omega arith) (λ k. bit-small (has v k)) i;
-      }
+    pub agree-same-form : Agree e e′ → formOf width (truth window e) ≡ formOf width (truth window e′)
+    unfolding window wide
+    agree-same-form f =
+        same-forms window window-fair ends 1 (omega arith) e e′ ok ok′
+        (λ v b. f (showing window window-fair 1 v) (is-scan v) reach (rw (length-showing window window-fair 1 v) (omega arith)))
+      where
+        is-scan : (v : ℕ) → Scan (showing window window-fair 1 v)
+        is-scan v = record {
+          nonempty = rw (length-showing window window-fair 1 v) (omega arith);
+          short = rw (length-showing window window-fair 1 v) (omega arith);
+          small = λ i. omega (arith, showing-le window window-fair 1 v i);
+        }

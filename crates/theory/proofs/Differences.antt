@@ -37,6 +37,16 @@ sub-same a x b y e = go (side a x) (side b y)
     go (inr p) (inl q) = absurd (omega arith)
     go (inr p) (inr q) = sub-high a x p ∙ ap pos (omega arith) ∙ sym (sub-high b y q)
 
+-- a and b are as far from x
+pub sub-cancel : (a b x : ℕ) → subℕ a x ≡ subℕ b x → a ≡ b
+sub-cancel a b x e = go (side a x) (side b x)
+  where
+    go : (a < x) ⊎ (x ≤ a) → (b < x) ⊎ (x ≤ b) → a ≡ b
+    go (inl p) (inl q) = let z : x - suc a ≡ x - suc b = cc (e, sub-low a x p, sub-low b x q) in omega arith
+    go (inl p) (inr q) = let z : _≡_ {A = ℕ} 0 1 = cc (e, sub-low a x p, sub-high b x q) in omega arith
+    go (inr p) (inl q) = let z : _≡_ {A = ℕ} 0 1 = cc (e, sub-high a x p, sub-low b x q) in omega arith
+    go (inr p) (inr q) = let z : a - x ≡ b - x = cc (e, sub-high a x p, sub-high b x q) in omega arith
+
 -- (a - x) + (b - y) is (a + b) - (x + y)
 pub sub-add : (a x b y : ℕ) → subℕ a x +ℤ subℕ b y ≡ subℕ (a + b) (x + y)
 sub-add a x b y = go (side a x) (side b y)
@@ -50,7 +60,9 @@ sub-add a x b y = go (side a x) (side b y)
 -- x + (a - r) is (x + a) - r
 pub pos-add : (x a r : ℕ) → pos x +ℤ subℕ a r ≡ subℕ (x + a) r
 pos-add x a r =
-    ap (λ (z : ℤ). z +ℤ subℕ a r) (ap pos (omega arith) ∙ sym (sub-high x 0 zero-le)) ∙ sub-add x 0 a r ∙ sub-same (x + a) (0 + r) (x + a) r (omega arith)
+    ap (λ (z : ℤ). z +ℤ subℕ a r) (ap pos (omega arith) ∙ sym (sub-high x 0 zero-le))
+    ∙ sub-add x 0 a r
+    ∙ sub-same (x + a) (0 + r) (x + a) r (omega arith)
 
 -- -(a - x) is x - a
 pub sub-neg : (a x : ℕ) → negℤ (subℕ a x) ≡ subℕ x a

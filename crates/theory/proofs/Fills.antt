@@ -30,7 +30,8 @@ module _ {A : Type 0} where
       ∙ getD-drop j old 0 d
       ∙ ap (λ (k : ℕ). getD old k d) (omega arith)
 
-  pub fill-more : {f : ℕ → A} {old new : List A} {j : ℕ} {v : A} → Filled f old new j → j < length old → v ≡ f j → Filled f old (set new j v) (j + 1)
+  pub fill-more : {f : ℕ → A} {old new : List A} {j : ℕ} {v : A} → Filled f old new j → j < length old → v ≡ f j
+      → Filled f old (set new j v) (j + 1)
   fill-more {f} {old} {new} {j} {v} r h e = record {
     same = length-set new j v ∙ r .same;
     short = omega arith;

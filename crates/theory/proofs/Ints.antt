@@ -11,7 +11,7 @@ use lib.Signed.{leZ}
 use borrow.Author.Tests.{leb-true, le-leb, lt-ltb, le-ltb}
 use Rattle.theory.specs.Orders.{larger, smaller, ints}
 use Rattle.theory.proofs.Tests.{which, not-both}
-use Rattle.theory.proofs.Orders.{Strict}
+use Rattle.theory.proofs.Orders.{ints-lawful, Strict}
 
 pub gap : (a b : ℤ) → leZ a b ≡ true → (n : ℕ) × (a +ℤ pos n ≡ b)
 gap (pos a) (pos b) e = (b - a, ap pos (omega (arith, leb-true a b e)))
@@ -34,19 +34,22 @@ by-gap a b n e = subst (λ (z : ℤ). leZ a z ≡ true) e (up a n)
 
 swap : (a m c n : ℤ) → (a +ℤ c) +ℤ (m +ℤ n) ≡ (a +ℤ m) +ℤ (c +ℤ n)
 swap a m c n =
-    +ℤ-assoc a c (m +ℤ n) ∙ ap (λ (z : ℤ). a +ℤ z) (sym (+ℤ-assoc c m n) ∙ ap (λ (z : ℤ). z +ℤ n) (+ℤ-comm c m) ∙ +ℤ-assoc m c n) ∙ sym (+ℤ-assoc a m (c +ℤ n))
+    +ℤ-assoc a c (m +ℤ n)
+    ∙ ap (λ (z : ℤ). a +ℤ z) (sym (+ℤ-assoc c m n) ∙ ap (λ (z : ℤ). z +ℤ n) (+ℤ-comm c m) ∙ +ℤ-assoc m c n)
+    ∙ sym (+ℤ-assoc a m (c +ℤ n))
 
 pub leZ-add : (a b c d : ℤ) → leZ a b ≡ true → leZ c d ≡ true → leZ (a +ℤ c) (b +ℤ d) ≡ true
 leZ-add a b c d p q =
     let g = gap a b p in
     let h = gap c d q in
     by-gap (a +ℤ c) (b +ℤ d) (g .0 + h .0)
-    (ap (λ (z : ℤ). (a +ℤ c) +ℤ z) (sym (pos-+ℤ-pos (g .0) (h .0))) ∙ swap a (pos (g .0)) c (pos (h .0)) ∙ ap₂ (λ (x y : ℤ). x +ℤ y) (g .1) (h .1))
+    (ap (λ (z : ℤ). (a +ℤ c) +ℤ z) (sym (pos-+ℤ-pos (g .0) (h .0)))
+    ∙ swap a (pos (g .0)) c (pos (h .0))
+    ∙ ap₂ (λ (x y : ℤ). x +ℤ y) (g .1) (h .1))
 
 -- ---- each at most the other, and turned round
 
 pub ints-strict : Strict ints
-unfolding ints
 ints-strict (pos a) (pos b) p q = ap pos (omega (arith, leb-true a b p, leb-true b a q))
 ints-strict (pos a) (negsuc b) p q = absurd (not-both p refl)
 ints-strict (negsuc a) (pos b) p q = absurd (not-both q refl)
@@ -64,7 +67,7 @@ neg-down a b e =
     subst (λ (z : ℤ). leZ (negℤ b) z ≡ true) back (up (negℤ b) (g .0))
 
 pub neg-larger : (a b : ℤ) → negℤ (larger ints a b) ≡ smaller ints (negℤ a) (negℤ b)
-unfolding larger smaller ints
+unfolding larger smaller
 neg-larger a b = go (which (leZ a b)) (which (leZ (negℤ a) (negℤ b)))
   where
     go : (leZ a b ≡ true) ⊎ (leZ a b ≡ false) → (leZ (negℤ a) (negℤ b) ≡ true) ⊎ (leZ (negℤ a) (negℤ b) ≡ false)
@@ -72,4 +75,4 @@ neg-larger a b = go (which (leZ a b)) (which (leZ (negℤ a) (negℤ b)))
     go (inl p) (inl q) = rw (p, q) (ints-strict (negℤ b) (negℤ a) (neg-down a b p) q)
     go (inl p) (inr q) = rw (p, q)
     go (inr p) (inl q) = rw (p, q)
-    go (inr p) (inr q) = absurd (not-both (neg-down b a (ints .total a b p)) q)
+    go (inr p) (inr q) = absurd (not-both (neg-down b a (ints-lawful .total a b p)) q)

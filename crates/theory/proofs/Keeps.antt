@@ -24,7 +24,8 @@ unfolding keep from
 keep-next p a zero = rw (add-zero a)
 keep-next p a (suc n) =
     rw (add-suc a n, ← suc-add a n)
-    (ap (λ (l : List ℕ). put (p a) a l) (keep-next p (suc a) n) ∙ put-append (p a) a (keep p (from (suc a) n)) (put (p (suc a + n)) (suc a + n) []))
+    (ap (λ (l : List ℕ). put (p a) a l) (keep-next p (suc a) n)
+    ∙ put-append (p a) a (keep p (from (suc a) n)) (put (p (suc a + n)) (suc a + n) []))
 
 -- the numbers below n that are kept, ascending
 unfoldable pub kept : (ℕ → Bool) → ℕ → List ℕ
@@ -49,7 +50,8 @@ kept-length p n = ap length (kept-next p n (p n) refl) ∙ length-append (kept p
 kept-mono : (p : ℕ → Bool) (m n : ℕ) → m ≤ n → length (kept p m) ≤ length (kept p n)
 kept-mono p m zero h = let e : m ≡ 0 = omega arith in rw e (le-refl (length (kept p 0)))
 kept-mono p m (suc n) h =
-    ⊎-elim (λ e. rw e (le-refl (length (kept p (suc n))))) (λ l. omega (arith, kept-mono p m n (omega arith), rw add-one at (kept-length p n))) (eq-or-lt-of-le h)
+    ⊎-elim (λ e. rw e (le-refl (length (kept p (suc n)))))
+    (λ l. omega (arith, kept-mono p m n (omega arith), rw add-one at (kept-length p n))) (eq-or-lt-of-le h)
 
 -- what is kept has room where all of it has
 pub kept-room : (p : ℕ → Bool) (v n : ℕ) → v < n → p v ≡ true → length (kept p v) < length (kept p n)
@@ -63,11 +65,13 @@ pub kept-more : (p : ℕ → Bool) (l : List ℕ) (n : ℕ) (b : Bool) → p n �
 kept-more p l n true e h =
     let K = kept p n in
     let room : length K < length l = h refl in
-    rw (kept-next p n true e, length-append K (n ∷ []), add-one, drop-cons l (length K) 0, set-append-seam) (sym (append-snoc K n (drop (suc (length K)) l)))
+    rw (kept-next p n true e, length-append K (n ∷ []), add-one, drop-cons l (length K) 0, set-append-seam)
+    (sym (append-snoc K n (drop (suc (length K)) l)))
 kept-more p l n false e h = rw (kept-next p n false e, append-nil)
 
 -- what is kept of ascending numbers ascends
-pub keep-rises : (p : ℕ → Bool) (a n i j : ℕ) → i < j → j < length (keep p (from a n)) → getD (keep p (from a n)) i 0 < getD (keep p (from a n)) j 0
+pub keep-rises : (p : ℕ → Bool) (a n i j : ℕ) → i < j → j < length (keep p (from a n))
+    → getD (keep p (from a n)) i 0 < getD (keep p (from a n)) j 0
 unfolding keep from
 keep-rises p a zero i j l h = absurd (not-suc-le-zero h)
 keep-rises p a (suc n) i j l h = go (which (p a)) (keep-rises p (suc a) n) i j l h

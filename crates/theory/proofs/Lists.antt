@@ -2,7 +2,7 @@
 -- Assumes nothing.
 use mathlib.Core.Path.{_≡_, refl, sym, ap, ap₂, _∙_}
 use mathlib.Core.Bool.{Bool, true, false, _||_}
-use mathlib.Core.List.{List, [], _∷_, _++_, append-nil, List·Memᴰ, List·Memᴰ·head, List·Memᴰ·tail, List·Memᴰ·cases-cons}
+use mathlib.Core.List.{List, [], _∷_, _++_, map, append-nil, List·Memᴰ, List·Memᴰ·head, List·Memᴰ·tail, List·Memᴰ·cases-cons}
 use mathlib.Core.Logic.{_⊎_, inl, inr}
 use Prim.Native.Nat.{ℕ, zero, suc, _+_, _≤_, _<_, min, suc-le-suc, zero-le}
 use native.Mathlib.Nat.{le-of-suc-le-suc, not-suc-le-zero}
@@ -12,7 +12,7 @@ use lib.Dec.{leb, eqb}
 use lib.ListN.{length, getD, drop, set, drop-of-length-le}
 use lib.Seq.{drop-cons, set-at, append-snoc}
 use borrow.Author.Tests.{eqb-true, eqb-false, lt-ltb, le-ltb, ltb-false, leb-true, leb-false}
-use Rattle.theory.specs.Lists.{all, any, put, keep, tab, from, first, some, bit, tally}
+use Rattle.theory.specs.Lists.{all, any, put, keep, tab, from, first, anyBelow, bit, tally}
 use Rattle.theory.proofs.Tests.{which, not-both, and-left, and-right, and-both, or-left, or-right, or-cases}
 
 module _ {A : Type 0} where
@@ -36,7 +36,8 @@ module _ {A : Type 0} where
   any-at p [] e = absurd (not-both e refl)
   any-at p (x ∷ xs) e = go (any-at p xs) (or-cases _ _ e)
     where
-      go : (any p xs ≡ true → (y : A) × List·Memᴰ y xs × (p y ≡ true)) → (p x ≡ true) ⊎ (any p xs ≡ true) → (y : A) × List·Memᴰ y (x ∷ xs) × (p y ≡ true)
+      go : (any p xs ≡ true → (y : A) × List·Memᴰ y xs × (p y ≡ true)) → (p x ≡ true) ⊎ (any p xs ≡ true)
+          → (y : A) × List·Memᴰ y (x ∷ xs) × (p y ≡ true)
       go ih (inl q) = (x, List·Memᴰ·head refl, q)
       go ih (inr q) = (ih q .0, List·Memᴰ·tail (ih q .1), ih q .2)
 
@@ -54,7 +55,8 @@ module _ {A : Type 0} where
   keep-at p [] m = elim m [ ]
   keep-at p {x} (y ∷ ys) m = go (p y) refl (keep-at p ys) m
     where
-      go : (b : Bool) → p y ≡ b → (List·Memᴰ x (keep p ys) → List·Memᴰ x ys × (p x ≡ true)) → List·Memᴰ x (put b y (keep p ys)) → List·Memᴰ x (y ∷ ys) × (p x ≡ true)
+      go : (b : Bool) → p y ≡ b → (List·Memᴰ x (keep p ys) → List·Memᴰ x ys × (p x ≡ true)) → List·Memᴰ x (put b y (keep p ys))
+          → List·Memᴰ x (y ∷ ys) × (p x ≡ true)
       go true e ih (List·Memᴰ·head q) = (List·Memᴰ·head q, ap p q ∙ e)
       go true e ih (List·Memᴰ·tail k) = (List·Memᴰ·tail (ih k .0), ih k .1)
       go false e ih k = (List·Memᴰ·tail (ih k .0), ih k .1)
@@ -111,24 +113,27 @@ unfolding first
 first-none p zero f = refl
 first-none p (suc n) f = rw (f zero (suc-le-suc zero-le)) (ap suc (first-none (λ j. p (suc j)) n (λ j h. f (suc j) (suc-le-suc h))))
 
-pub some-at : (p : ℕ → Bool) (n k : ℕ) → k < n → ((j : ℕ) → j < k → p j ≡ false) → p k ≡ true → some p n ≡ true
-unfolding some
-some-at p n k l f t = rw (first-at p n k l f t) (lt-ltb k n l)
+pub any-below-at : (p : ℕ → Bool) (n k : ℕ) → k < n → ((j : ℕ) → j < k → p j ≡ false) → p k ≡ true → anyBelow p n ≡ true
+unfolding anyBelow
+any-below-at p n k l f t = rw (first-at p n k l f t) (lt-ltb k n l)
 
-pub some-none : (p : ℕ → Bool) (n : ℕ) → ((j : ℕ) → j < n → p j ≡ false) → some p n ≡ false
-unfolding some
-some-none p n f = rw (first-none p n f) (le-ltb n n (omega arith))
+pub any-below-none : (p : ℕ → Bool) (n : ℕ) → ((j : ℕ) → j < n → p j ≡ false) → anyBelow p n ≡ false
+unfolding anyBelow
+any-below-none p n f = rw (first-none p n f) (le-ltb n n (omega arith))
 
 -- where none passes, each fails
-pub some-no : (p : ℕ → Bool) (n : ℕ) → some p n ≡ false → (j : ℕ) → j < n → p j ≡ false
-unfolding some first
-some-no p zero e j h = absurd (not-suc-le-zero h)
-some-no p (suc n) e j h = go (which (p zero)) (some-no (λ k. p (suc k)) n) j h
+pub any-below-no : (p : ℕ → Bool) (n : ℕ) → anyBelow p n ≡ false → (j : ℕ) → j < n → p j ≡ false
+unfolding anyBelow first
+any-below-no p zero e j h = absurd (not-suc-le-zero h)
+any-below-no p (suc n) e j h = go (which (p zero)) (any-below-no (λ k. p (suc k)) n) j h
   where
-    go : (p zero ≡ true) ⊎ (p zero ≡ false) → (some (λ k. p (suc k)) n ≡ false → (j : ℕ) → j < n → p (suc j) ≡ false) → (j : ℕ) → j < suc n → p j ≡ false
+    go : (p zero ≡ true) ⊎ (p zero ≡ false) → (anyBelow (λ k. p (suc k)) n ≡ false → (j : ℕ) → j < n → p (suc j) ≡ false) → (j : ℕ)
+        → j < suc n → p j ≡ false
     go (inl q) ih j h = absurd (not-both (lt-ltb 0 (suc n) (omega arith)) (rw q at e))
     go (inr q) ih zero h = q
-    go (inr q) ih (suc j) h = ih (le-ltb (first (λ k. p (suc k)) n) n (le-of-suc-le-suc (ltb-false (suc (first (λ k. p (suc k)) n)) (suc n) (rw q at e)))) j (le-of-suc-le-suc h)
+    go (inr q) ih (suc j) h =
+        ih (le-ltb (first (λ k. p (suc k)) n) n (le-of-suc-le-suc (ltb-false (suc (first (λ k. p (suc k)) n)) (suc n) (rw q at e)))) j
+        (le-of-suc-le-suc h)
 
 -- ---- elements and their indices
 
@@ -141,6 +146,41 @@ module _ {A : Type 0} where
   index-mem d [] j h = absurd (not-suc-le-zero h)
   index-mem d (x ∷ xs) zero h = List·Memᴰ·head refl
   index-mem d (x ∷ xs) (suc j) h = List·Memᴰ·tail (index-mem d xs j (le-of-suc-le-suc h))
+
+  -- inside a list no default is read
+  pub getD-inside : (l : List A) (i : ℕ) (d e : A) → i < length l → getD l i d ≡ getD l i e
+  getD-inside [] i d e h = absurd (not-suc-le-zero h)
+  getD-inside (x ∷ xs) zero d e h = refl
+  getD-inside (x ∷ xs) (suc i) d e h = getD-inside xs i d e (le-of-suc-le-suc h)
+
+  -- beyond it the default is
+  pub getD-beyond : (l : List A) (i : ℕ) (d : A) → length l ≤ i → getD l i d ≡ d
+  getD-beyond [] i d h = refl
+  getD-beyond (x ∷ xs) zero d h = absurd (not-suc-le-zero h)
+  getD-beyond (x ∷ xs) (suc i) d h = getD-beyond xs i d (le-of-suc-le-suc h)
+
+  -- what is so of each element and of the default is so at every index
+  pub getD-from : (P : A → Type 0) (l : List A) (i : ℕ) (d : A) → P d → ((a : A) → List·Memᴰ a l → P a) → P (getD l i d)
+  getD-from P [] i d p q = p
+  getD-from P (x ∷ xs) zero d p q = q x (List·Memᴰ·head refl)
+  getD-from P (x ∷ xs) (suc i) d p q = getD-from P xs i d p (λ a m. q a (List·Memᴰ·tail m))
+
+-- ---- maps over a list
+
+pub map-id : {A : Type 0} (xs : List A) → map (λ x. x) xs ≡ xs
+map-id [] = refl
+map-id {A} (x ∷ xs) = ap {B = List A} (λ l. x ∷ l) (map-id xs)
+
+module _ {A B : Type 0} where
+  pub map-agree : (f g : A → B) (xs : List A) → ((x : A) → List·Memᴰ x xs → f x ≡ g x) → map f xs ≡ map g xs
+  map-agree f g [] h = refl
+  map-agree f g (x ∷ xs) h = ap₂ {C = List B} (λ y l. y ∷ l) (h x (List·Memᴰ·head refl)) (map-agree f g xs (λ y m. h y (List·Memᴰ·tail m)))
+
+  -- what is so of each mapped element
+  pub map-from : (P : B → Type 0) (f : A → B) (xs : List A) → ((x : A) → List·Memᴰ x xs → P (f x)) → (y : B) → List·Memᴰ y (map f xs) → P y
+  map-from P f [] h y m = elim m [ ]
+  map-from P f (x ∷ xs) h y (List·Memᴰ·head e) = rw e (h x (List·Memᴰ·head refl))
+  map-from P f (x ∷ xs) h y (List·Memᴰ·tail m) = map-from P f xs (λ z k. h z (List·Memᴰ·tail k)) y m
 
 -- ---- a list by its rule, and a loop that fills a list from the front with it, one store a turn
 
@@ -171,15 +211,20 @@ module _ {A : Type 0} where
   pub tab-cong : (n : ℕ) (f g : ℕ → A) → ((k : ℕ) → k < n → f k ≡ g k) → tab n f ≡ tab n g
   unfolding tab
   tab-cong zero f g h = refl
-  tab-cong (suc n) f g h = ap₂ {C = List A} (λ x l. x ∷ l) (h zero (suc-le-suc zero-le)) (tab-cong n (λ k. f (suc k)) (λ k. g (suc k)) (λ k l. h (suc k) (suc-le-suc l)))
+  tab-cong (suc n) f g h =
+      ap₂ {C = List A} (λ x l. x ∷ l) (h zero (suc-le-suc zero-le))
+      (tab-cong n (λ k. f (suc k)) (λ k. g (suc k)) (λ k l. h (suc k) (suc-le-suc l)))
 
   pub tab-none : (f : ℕ → A) (l : List A) → l ≡ tab 0 f ++ drop 0 l
   unfolding tab
   tab-none f l = refl
 
   -- one store more
-  pub tab-more : (d : A) (f : ℕ → A) (l : List A) (i : ℕ) → i < length l → set (tab i f ++ drop i l) i (f i) ≡ tab (i + 1) f ++ drop (i + 1) l
-  tab-more d f l i h = rw (add-one, drop-cons l i d, set-at (tab i f) (getD l i d) (drop (suc i) l) (f i) i (length-tab i f), tab-suc) (sym (append-snoc (tab i f) (f i) (drop (suc i) l)))
+  pub tab-more : (d : A) (f : ℕ → A) (l : List A) (i : ℕ) → i < length l
+      → set (tab i f ++ drop i l) i (f i) ≡ tab (i + 1) f ++ drop (i + 1) l
+  tab-more d f l i h =
+      rw (add-one, drop-cons l i d, set-at (tab i f) (getD l i d) (drop (suc i) l) (f i) i (length-tab i f), tab-suc)
+      (sym (append-snoc (tab i f) (f i) (drop (suc i) l)))
 
   -- the whole is written
   pub tab-all : (f : ℕ → A) (l : List A) (i : ℕ) → length l ≤ i → tab i f ++ drop i l ≡ tab i f
@@ -210,6 +255,7 @@ unfolding tally bit
 tally-below zero v = omega arith
 tally-below (suc k) v = go (which (leb (suc k) v)) (tally-below k v)
   where
-    go : (leb (suc k) v ≡ true) ⊎ (leb (suc k) v ≡ false) → tally k (λ t. leb t v) ≡ min v k → tally k (λ t. leb t v) + bit (leb (suc k) v) ≡ min v (suc k)
+    go : (leb (suc k) v ≡ true) ⊎ (leb (suc k) v ≡ false) → tally k (λ t. leb t v) ≡ min v k
+        → tally k (λ t. leb t v) + bit (leb (suc k) v) ≡ min v (suc k)
     go (inl e) ih = rw e (omega (arith, leb-true (suc k) v e))
     go (inr e) ih = rw e (omega (arith, leb-false (suc k) v e))

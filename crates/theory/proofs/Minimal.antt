@@ -15,7 +15,7 @@ use Rattle.theory.proofs.Tests.{same-test, which, not-both, and-left, a
 use Rattle.theory.proofs.Lists.{any-by, any-none, from-mem}
 use Rattle.theory.proofs.Sets.{within-by, within-has}
 use Rattle.theory.proofs.Canon.{minimal-one, minimal-none, minimal-by}
-use Rattle.theory.proofs.Places.{has-le, has-less, lacks-one}
+use Rattle.theory.proofs.Positions.{has-le, has-less, lacks-one}
 
 -- f is 1 on v without the position i, which v has
 unfoldable pub keepsWithout : (ℕ → Bool) → ℕ → ℕ → Bool
@@ -48,7 +48,8 @@ module _ (w : ℕ) (f : ℕ → Bool) (pos : Positive w f) (v : ℕ) (b : v < 2 
           minimal-by f v (and-left (f v) _ e)
           (λ u l p q. let s = lacks-one w u v l b in
           let less : f (v - 2 ^ s .0) ≡ true = pos u (v - 2 ^ s .0) (omega arith) (below-less u (s .0) l q (s .2) (s .3)) p in
-          not-both (any-by (keepsWithout f v) {x = s .0} (from-mem 0 w zero-le (omega (arith, s .1))) (and-both (s .2) less)) (not-true _ (and-right (f v) _ e)))
+          not-both (any-by (keepsWithout f v) {x = s .0} (from-mem 0 w zero-le (omega (arith, s .1))) (and-both (s .2) less))
+          (not-true _ (and-right (f v) _ e)))
 
       back : minimal f v ≡ true → minimalByOne w f v ≡ true
       back e = and-both (minimal-one f v e) (rw (any-none (keepsWithout f v) (from 0 w) (λ i m. none i (which (keepsWithout f v i)))))

@@ -30,7 +30,8 @@ module _ {A : Type 0} (d : A) (p : A → Bool) (xs : List A) where
 pub first-cong : (p q : ℕ → Bool) (n : ℕ) → ((j : ℕ) → j < n → p j ≡ q j) → first p n ≡ first q n
 unfolding first
 first-cong p q zero e = refl
-first-cong p q (suc n) e = rw (e zero (suc-le-suc zero-le), first-cong (λ j. p (suc j)) (λ j. q (suc j)) n (λ j h. e (suc j) (suc-le-suc h)))
+first-cong p q (suc n) e =
+    rw (e zero (suc-le-suc zero-le), first-cong (λ j. p (suc j)) (λ j. q (suc j)) n (λ j h. e (suc j) (suc-le-suc h)))
 
 -- one that passes below n is the first below any greater number too
 pub first-more : (p : ℕ → Bool) (n m : ℕ) → n ≤ m → first p n < n → first p m ≡ first p n
@@ -39,6 +40,7 @@ first-more p zero m h l = absurd (not-suc-le-zero l)
 first-more p (suc n) zero h l = absurd (not-suc-le-zero h)
 first-more p (suc n) (suc m) h l = go (which (p zero)) (first-more (λ j. p (suc j)) n m (le-of-suc-le-suc h)) l
   where
-    go : (p zero ≡ true) ⊎ (p zero ≡ false) → (first (λ j. p (suc j)) n < n → first (λ j. p (suc j)) m ≡ first (λ j. p (suc j)) n) → first p (suc n) < suc n → first p (suc m) ≡ first p (suc n)
+    go : (p zero ≡ true) ⊎ (p zero ≡ false) → (first (λ j. p (suc j)) n < n → first (λ j. p (suc j)) m ≡ first (λ j. p (suc j)) n)
+        → first p (suc n) < suc n → first p (suc m) ≡ first p (suc n)
     go (inl e) ih l = rw e
     go (inr e) ih l = rw e (ap suc (ih (le-of-suc-le-suc (rw e at l))))

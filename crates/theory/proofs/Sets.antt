@@ -10,10 +10,10 @@ use native.Mathlib.Omega.{arith}
 use lib.Dec.{eqb, eqb·zero-suc, eqb·suc-zero, eqb·suc-suc}
 use lib.Pow.{pow-lt}
 use lib.Arith.{digits-div, digits-mod, digits-lt, lt-one}
-use lib.Bits.{bitAnd, and-step, and-le-l, and-le-r, and-shr, and-mod, bitOr, or-step, or-lt}
+use lib.Bits.{bitAnd, and-step, and-le-l, and-le-r, bitOr, or-step, or-lt}
 use borrow.Author.Tests.{eqb-true, eqb-false, eq-eqb}
 use Rattle.theory.specs.Lists.{all, any, from, bit}
-use Rattle.theory.specs.Sets.{has, gather, within, places, with-place}
+use Rattle.theory.specs.Sets.{has, gather, within, positions, with-position}
 use Rattle.theory.proofs.Tests.{same-test, and-right, which, not-both}
 use Rattle.theory.proofs.Lists.{keep-mem, keep-at, from-mem, from-at, all-at, all-by, any-at, any-by, bit-lt}
 
@@ -33,7 +33,8 @@ pub has-gather : (w : ℕ) (p : ℕ → Bool) (i : ℕ) → i < w → has (gathe
 unfolding has gather
 has-gather zero p i h = absurd (not-suc-le-zero h)
 has-gather (suc w) p zero h = rw (digits-mod (gather w (λ i. p (suc i))) (bit-lt (p zero))) (bit-is (p zero))
-has-gather (suc w) p (suc i) h = rw (digits-div (gather w (λ i. p (suc i))) (bit-lt (p zero))) (has-gather w (λ i. p (suc i)) i (le-of-suc-le-suc h))
+has-gather (suc w) p (suc i) h =
+    rw (digits-div (gather w (λ i. p (suc i))) (bit-lt (p zero))) (has-gather w (λ i. p (suc i)) i (le-of-suc-le-suc h))
 
 -- ---- two numbers with the same positions
 
@@ -89,7 +90,8 @@ min-lt a b h = omega arith
 pub has-and : (a b i : ℕ) → has (bitAnd a b) i ≡ (has a i && has b i)
 unfolding has
 has-and a b zero =
-    rw (and-step a b, digits-mod (bitAnd (a / 2) (b / 2)) (min-lt (a % 2) (b % 2) (mod-two a))) (min-is (a % 2) (b % 2) (mod-two a) (mod-two b))
+    rw (and-step a b, digits-mod (bitAnd (a / 2) (b / 2)) (min-lt (a % 2) (b % 2) (mod-two a)))
+    (min-is (a % 2) (b % 2) (mod-two a) (mod-two b))
 has-and a b (suc i) =
     rw (and-step a b, digits-div (bitAnd (a / 2) (b / 2)) (min-lt (a % 2) (b % 2) (mod-two a))) (has-and (a / 2) (b / 2) i)
 
@@ -129,50 +131,34 @@ within-refl a = within-by a a a (below a) (λ i l h. h)
 pub within-trans : (a b c : ℕ) → within a b ≡ true → within b c ≡ true → within a c ≡ true
 within-trans a b c e f = within-by a a c (below a) (λ i l h. within-has b c f i (within-has a b e i h))
 
-pub within-antisym : {a b : ℕ} → within a b ≡ true → within b a ≡ true → a ≡ b
-within-antisym e f = omega (arith, within-le e, within-le f)
+-- ---- positions
 
--- what lies within stays within, on the w positions from k on
-pub within-part : (k w u v : ℕ) → within u v ≡ true → within (u / 2 ^ k % 2 ^ w) (v / 2 ^ k % 2 ^ w) ≡ true
-unfolding within
-within-part k w u v e =
-    eq-eqb _ _ (sym (and-mod (u / 2 ^ k) (v / 2 ^ k) w) ∙ ap (λ (n : ℕ). n % 2 ^ w) (sym (and-shr u v k)) ∙ ap (λ (n : ℕ). n / 2 ^ k % 2 ^ w) (eqb-true _ _ e))
+pub positions-at : (w v : ℕ) {i : ℕ} → List·Memᴰ i (positions w v) → (i < w) × (has v i ≡ true)
+unfolding positions
+positions-at w v m = let k = keep-at (has v) (from 0 w) m in (omega (arith, from-at 0 w (k .0)), k .1)
 
--- ---- places
+pub positions-mem : (w v : ℕ) {i : ℕ} → i < w → has v i ≡ true → List·Memᴰ i (positions w v)
+unfolding positions
+positions-mem w v l h = keep-mem (has v) (from-mem 0 w zero-le (omega arith)) h
 
-pub places-at : (w v : ℕ) {i : ℕ} → List·Memᴰ i (places w v) → (i < w) × (has v i ≡ true)
-unfolding places
-places-at w v m = let k = keep-at (has v) (from 0 w) m in (omega (arith, from-at 0 w (k .0)), k .1)
-
-pub places-mem : (w v : ℕ) {i : ℕ} → i < w → has v i ≡ true → List·Memᴰ i (places w v)
-unfolding places
-places-mem w v l h = keep-mem (has v) (from-mem 0 w zero-le (omega arith)) h
-
--- a pattern holds a term where it has each of the term's places
-pub within-places : (w a b : ℕ) → a < 2 ^ w → within a b ≡ all (has b) (places w a)
-within-places w a b h =
-    same-test
-    (λ e. all-by (has b) (places w a) (λ i m. within-has _ _ e i (places-at w a m .1)))
-    (λ e. within-by w a b h (λ i l k. all-at (has b) e (places-mem w a l k)))
-
--- the same for a pattern that was gathered
-pub within-gather : (w a : ℕ) (p : ℕ → Bool) → a < 2 ^ w → within a (gather w p) ≡ all p (places w a)
+-- a gathered pattern contains a set where each of its positions passes
+pub within-gather : (w a : ℕ) (p : ℕ → Bool) → a < 2 ^ w → within a (gather w p) ≡ all p (positions w a)
 within-gather w a p h =
     same-test
-    (λ e. all-by p (places w a) (λ i m. sym (has-gather w p i (places-at w a m .0)) ∙ within-has _ _ e i (places-at w a m .1)))
-    (λ e. within-by w a (gather w p) h (λ i l k. has-gather w p i l ∙ all-at p e (places-mem w a l k)))
+    (λ e. all-by p (positions w a) (λ i m. sym (has-gather w p i (positions-at w a m .0)) ∙ within-has _ _ e i (positions-at w a m .1)))
+    (λ e. within-by w a (gather w p) h (λ i l k. has-gather w p i l ∙ all-at p e (positions-mem w a l k)))
 
 pub has-zero : (i : ℕ) → has 0 i ≡ false
 unfolding has
 has-zero zero = refl
 has-zero (suc i) = has-zero i
 
--- a number that is not 0 has a place
-pub places-some : (w m : ℕ) → 0 < m → m < 2 ^ w → (i : ℕ) × List·Memᴰ i (places w m)
-places-some w m p h = go (which (any (has m) (from 0 w)))
+-- a number that is not 0 has a position
+pub positions-nonempty : (w m : ℕ) → 0 < m → m < 2 ^ w → (i : ℕ) × List·Memᴰ i (positions w m)
+positions-nonempty w m p h = go (which (any (has m) (from 0 w)))
   where
-    go : (any (has m) (from 0 w) ≡ true) ⊎ (any (has m) (from 0 w) ≡ false) → (i : ℕ) × List·Memᴰ i (places w m)
-    go (inl e) = let s = any-at (has m) (from 0 w) e in (s .0, places-mem w m (omega (arith, from-at 0 w (s .1))) (s .2))
+    go : (any (has m) (from 0 w) ≡ true) ⊎ (any (has m) (from 0 w) ≡ false) → (i : ℕ) × List·Memᴰ i (positions w m)
+    go (inl e) = let s = any-at (has m) (from 0 w) e in (s .0, positions-mem w m (omega (arith, from-at 0 w (s .1))) (s .2))
     go (inr e) =
         let z : m ≡ 0 = same-bits w m 0 h (omega arith) (λ i l. none i l (which (has m i)) ∙ sym (has-zero i)) in
         absurd (omega arith)
@@ -198,7 +184,8 @@ max-lt a b h k = omega arith
 has-or : (a b i : ℕ) → has (bitOr a b) i ≡ (has a i || has b i)
 unfolding has
 has-or a b zero =
-    rw (or-step a b, digits-mod (bitOr (a / 2) (b / 2)) (max-lt (a % 2) (b % 2) (mod-two a) (mod-two b))) (max-is (a % 2) (b % 2) (mod-two a) (mod-two b))
+    rw (or-step a b, digits-mod (bitOr (a / 2) (b / 2)) (max-lt (a % 2) (b % 2) (mod-two a) (mod-two b)))
+    (max-is (a % 2) (b % 2) (mod-two a) (mod-two b))
 has-or a b (suc i) =
     rw (or-step a b, digits-div (bitOr (a / 2) (b / 2)) (max-lt (a % 2) (b % 2) (mod-two a) (mod-two b))) (has-or (a / 2) (b / 2) i)
 
@@ -209,10 +196,10 @@ has-pow zero (suc j) = has-zero j ∙ sym (eqb·suc-zero j)
 has-pow (suc i) zero = let z : 2 ^ suc i % 2 ≡ 0 = omega arith in rw z (sym (eqb·zero-suc i))
 has-pow (suc i) (suc j) = let z : 2 ^ suc i / 2 ≡ 2 ^ i = omega arith in rw z (has-pow i j ∙ sym (eqb·suc-suc j i))
 
-pub has-with : (v i j : ℕ) → has (with-place v i) j ≡ (has v j || eqb j i)
-unfolding with-place
+pub has-with : (v i j : ℕ) → has (with-position v i) j ≡ (has v j || eqb j i)
+unfolding with-position
 has-with v i j = has-or v (2 ^ i) j ∙ ap (λ (b : Bool). has v j || b) (has-pow i j)
 
-pub with-lt : (w v i : ℕ) → v < 2 ^ w → i < w → with-place v i < 2 ^ w
-unfolding with-place
+pub with-lt : (w v i : ℕ) → v < 2 ^ w → i < w → with-position v i < 2 ^ w
+unfolding with-position
 with-lt w v i h l = or-lt w v (2 ^ i) h (pow-lt l)

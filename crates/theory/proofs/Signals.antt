@@ -1,71 +1,108 @@
--- Laws of signals: the window is fair, and what it sees of a list with held ends stands at one index.
+-- Laws of signals: what stands at each index of an endless list, which windows are fair, and what a window sees.
 -- Assumes nothing.
-use mathlib.Core.Path.{_≡_, refl, ap, _∙_}
+use mathlib.Core.Path.{_≡_, refl, sym, ap, _∙_, subst}
 use mathlib.Core.Bool.{true}
 use mathlib.Core.List.{List}
 use mathlib.Core.Logic.{_⊎_, inl, inr}
-use Prim.Native.Nat.{ℕ, zero, suc, _+_, _-_, _≤_, _<_, min}
+use Prim.Native.Nat.{ℕ, zero, suc, _+_, _-_, _≤_, _<_}
 use native.Mathlib.Omega.{arith}
 use lib.ListN.{length, getD}
-use lib.IntN.{ℤ, pos, negsuc, negℤ, subℕ, _+ℤ_}
+use lib.IntN.{ℤ, pos, negsuc, negℤ, subℕ}
 use lib.Signed.{leZ}
 use borrow.Author.Tests.{leb-true}
-use Rattle.theory.specs.Signals.{Ends, held, zeros, endless, Window, row, nine, seen}
+use Rattle.theory.specs.Signals.{Ends, held, zeros, before, after, between, endless, Window, wide, offset, seen, window}
 use Rattle.theory.proofs.Tests.{not-both}
-use Rattle.theory.proofs.Differences.{sub-low, sub-high, side, pos-add}
+use Rattle.theory.proofs.Lists.{getD-inside, getD-beyond}
+use Rattle.theory.proofs.Differences.{sub-low, sub-high, sub-cancel, side, pos-add}
 use Rattle.theory.proofs.Plans.{Inside}
 
--- each offset left .. right has one position
-pub record Fair (W : Window) : Type 0 where
-  pub once : (i j : ℕ) → i < W .width → j < W .width → W .offset i ≡ W .offset j → i ≡ j
-  pub cover : (d : ℤ) → Inside (W .left) (W .right) d → (i : ℕ) × (i < W .width) × (W .offset i ≡ d)
+-- ---- a list between l and r
 
-row-once : (r i j : ℕ) → subℕ i r ≡ subℕ j r → i ≡ j
-row-once r i j e = go (side i r) (side j r)
-  where
-    go : (i < r) ⊎ (r ≤ i) → (j < r) ⊎ (r ≤ j) → i ≡ j
-    go (inl a) (inl b) = let q : r - suc i ≡ r - suc j = cc (e, sub-low i r a, sub-low j r b) in omega arith
-    go (inl a) (inr b) = let q : _≡_ {A = ℕ} 0 1 = cc (e, sub-low i r a, sub-high j r b) in omega arith
-    go (inr a) (inl b) = let q : _≡_ {A = ℕ} 0 1 = cc (e, sub-high i r a, sub-low j r b) in omega arith
-    go (inr a) (inr b) = let q : i - r ≡ j - r = cc (e, sub-high i r a, sub-high j r b) in omega arith
+module _ {A : Type 0} (l r : A) (s : List A) where
+  -- at an index: left of the list, in it, and right of it
+  pub between-left : (a c : ℕ) → a < c → between l r s (subℕ a c) ≡ l
+  unfolding between
+  between-left a c h = rw (sub-low a c h)
+
+  pub between-inside : (z : A) (a c : ℕ) → c ≤ a → a < c + length s → between l r s (subℕ a c) ≡ getD s (a - c) z
+  unfolding between
+  between-inside z a c h k = rw (sub-high a c h) (getD-inside s (a - c) r z (omega arith))
+
+  pub between-right : (a c : ℕ) → c + length s ≤ a → between l r s (subℕ a c) ≡ r
+  unfolding between
+  between-right a c h = rw (sub-high a c (omega arith)) (getD-beyond s (a - c) r (omega arith))
+
+  -- what is so of l, of r and of each element is so everywhere
+  pub between-from : (P : A → Type 0) (z : A) → P l → P r → ((i : ℕ) → P (getD s i z)) → (y : ℤ) → P (between l r s y)
+  unfolding between
+  between-from P z p q h (negsuc n) = p
+  between-from P z p q h (pos n) = go (side n (length s))
+    where
+      go : (n < length s) ⊎ (length s ≤ n) → P (getD s n r)
+      go (inl k) = subst P (getD-inside s n z r k) (h n)
+      go (inr k) = subst P (sym (getD-beyond s n r k)) q
+
+-- ---- a list with its ends
+
+module _ {A : Type 0} (z : A) where
+  -- inside the list each rule gives the element
+  pub inner : (ends : Ends) (s : List A) (i : ℕ) → i < length s → endless z ends s (pos i) ≡ getD s i z
+  unfolding endless between
+  inner ends s i h = getD-inside s i (after z ends s) z h
+
+  -- what is so of z and of each element is so everywhere, by either rule
+  pub endless-from : (P : A → Type 0) (ends : Ends) (s : List A) → P z → ((i : ℕ) → P (getD s i z)) → (y : ℤ) → P (endless z ends s y)
+  unfolding endless before after
+  endless-from P held s p h y = between-from (getD s 0 z) (getD s (length s - 1) z) s P z (h 0) (h (length s - 1)) h y
+  endless-from P zeros s p h y = between-from z z s P z p p h y
+
+-- ---- windows
+
+-- each column of the window has one position
+pub record Fair (W : Window) : Type 0 where
+  pub position : ℕ → ℕ
+  pub column-lt : (i : ℕ) → i < wide W → W .column i < wide W
+  pub position-lt : (k : ℕ) → k < wide W → position k < wide W
+  pub column-position : (k : ℕ) → k < wide W → W .column (position k) ≡ k
+  pub position-column : (i : ℕ) → i < wide W → position (W .column i) ≡ i
+
+unfoldable pub window-fair : Fair window
+unfolding window
+window-fair =
+    record { position = λ k. k; column-lt = λ i l. l; position-lt = λ k l. l; column-position = λ k l. refl; position-column = λ i l. refl }
 
 left-bound : (r n : ℕ) → leZ (negℤ (pos r)) (negsuc n) ≡ true → n < r
 left-bound zero n e = absurd (not-both e refl)
 left-bound (suc k) n e = omega (arith, leb-true n k e)
 
-row-cover : (r : ℕ) (d : ℤ) → Inside (negℤ (pos r)) (pos r) d → (i : ℕ) × (i < suc (r + r)) × (subℕ i r ≡ d)
-row-cover r (pos n) h = (n + r, omega (arith, leb-true n r (h .to-hi)), sub-high (n + r) r (omega arith) ∙ ap pos (omega arith))
-row-cover r (negsuc n) h =
+-- each offset -r .. r is a column, less r
+pub column-of : (r : ℕ) (d : ℤ) → Inside (negℤ (pos r)) (pos r) d → (k : ℕ) × (k < suc (r + r)) × (subℕ k r ≡ d)
+column-of r (pos n) h = (n + r, omega (arith, leb-true n r (h .to-hi)), sub-high (n + r) r (omega arith) ∙ ap pos (omega arith))
+column-of r (negsuc n) h =
     let b : n < r = left-bound r n (h .from-lo) in
     (r - suc n, omega arith, sub-low (r - suc n) r (omega arith) ∙ ap negsuc (omega arith))
 
-pub row-fair : (r : ℕ) → Fair (row r)
-unfolding row
-row-fair r = record { once = λ i j a b e. row-once r i j e; cover = row-cover r }
+module _ (W : Window) (fair : Fair W) where
+  -- two positions have two offsets
+  pub fair-once : (i j : ℕ) → i < wide W → j < wide W → offset W i ≡ offset W j → i ≡ j
+  unfolding offset
+  fair-once i j a b e =
+      sym (fair .position-column i a) ∙ ap (fair .position) (sub-cancel (W .column i) (W .column j) (W .far) e) ∙ fair .position-column j b
 
-pub nine-fair : Fair nine
-unfolding nine
-nine-fair = row-fair 4
+  -- each offset has a position
+  pub fair-cover : (d : ℤ) → Inside (negℤ (pos (W .far))) (pos (W .far)) d → (i : ℕ) × (i < wide W) × (offset W i ≡ d)
+  unfolding offset wide
+  fair-cover d h =
+      let c = column-of (W .far) d h in
+      (fair .position (c .0), fair .position-lt (c .0) (c .1), ap (λ (k : ℕ). subℕ k (W .far)) (fair .column-position (c .0) (c .1)) ∙ c .2)
 
--- seen from r, position i is index i
-pub row-place : (r i : ℕ) → pos r +ℤ subℕ i r ≡ pos i
-row-place r i = pos-add r i r ∙ sub-high (r + i) r (omega arith) ∙ ap pos (omega arith)
+-- what a window sees at x, by the column
+pub seen-at : {A : Type 0} (W : Window) (g : ℤ → A) (x i : ℕ) → seen W g (pos x) i ≡ g (subℕ (x + W .column i) (W .far))
+unfolding seen offset
+seen-at W g x i = ap g (pos-add x (W .column i) (W .far))
 
--- inside the list each rule gives the element
-pub inner : {A : Type 0} (z : A) (ends : Ends) (s : List A) (i : ℕ) → i < length s → endless z ends s (pos i) ≡ getD s i z
-unfolding endless
-inner z held s i h = ap (λ (k : ℕ). getD s k z) (omega arith)
-inner z zeros s i h = refl
-
--- with held ends, one index in ℕ serves both ends: the subtraction stops at 0
-pub held-at : {A : Type 0} (z : A) (s : List A) (a r : ℕ) → endless z held s (subℕ a r) ≡ getD s (min (a - r) (length s - 1)) z
-unfolding endless
-held-at z s a r = go (side a r)
-  where
-    go : (a < r) ⊎ (r ≤ a) → endless z held s (subℕ a r) ≡ getD s (min (a - r) (length s - 1)) z
-    go (inl l) = let q : min (a - r) (length s - 1) ≡ 0 = omega arith in rw (sub-low a r l, q)
-    go (inr l) = rw (sub-high a r l)
-
-pub held-seen : {A : Type 0} (r : ℕ) (z : A) (s : List A) (x i : ℕ) → seen (row r) (endless z held s) (pos x) i ≡ getD s (min (x + i - r) (length s - 1)) z
-unfolding seen row
-held-seen r z s x i = ap (endless z held s) (pos-add x i r) ∙ held-at z s (x + i) r
+-- seen from far, a position's index is its column
+pub seen-from-far : {A : Type 0} (W : Window) (g : ℤ → A) (i : ℕ) → seen W g (pos (W .far)) i ≡ g (pos (W .column i))
+seen-from-far W g i =
+    let e : W .far + W .column i - W .far ≡ W .column i = omega arith in
+    seen-at W g (W .far) i ∙ ap g (sub-high (W .far + W .column i) (W .far) (omega arith) ∙ ap pos e)

@@ -18,11 +18,12 @@ module _ {A : Type 0} where
       let e : i + suc (length vs) ≡ suc i + length vs = omega arith in
       ap (λ (k : ℕ). sets (sets (set l i v) (suc i) vs) k ws) e ∙ sets-append (set l i v) (suc i) vs ws
 
-  -- the same, where the seam's place is known only by an equation
+  -- the same, where the seam is known only by an equation
   pub sets-next : (l : List A) (i k : ℕ) (vs ws : List A) → i + length vs ≡ k → sets (sets l i vs) k ws ≡ sets l i (vs ++ ws)
   sets-next l i k vs ws e = rw (← e) (sets-append l i vs ws)
 
-  pub sets-three : (l : List A) (i j k : ℕ) (us vs ws : List A) → i + length us ≡ j → j + length vs ≡ k → sets (sets (sets l i us) j vs) k ws ≡ sets l i (us ++ vs ++ ws)
+  pub sets-three : (l : List A) (i j k : ℕ) (us vs ws : List A) → i + length us ≡ j → j + length vs ≡ k
+      → sets (sets (sets l i us) j vs) k ws ≡ sets l i (us ++ vs ++ ws)
   sets-three l i j k us vs ws p q =
       ap (λ (m : List A). sets m k ws) (sets-next l i j us vs p) ∙ sets-next l i k (us ++ vs) ws (omega (arith, length-append us vs))
 

@@ -50,6 +50,10 @@ which false = inr refl
 pub not-both : {b : Bool} → b ≡ true → b ≡ false → ⊥
 not-both p q = let z : _≡_ {A = ℕ} 0 1 = cc in omega arith
 
+-- a claim that two truth values refute
+pub clash : {P : Type 0} → true ≡ false → P
+clash e = absurd (not-both refl e)
+
 pub or-no-left : (a b : Bool) → (a || b) ≡ false → a ≡ false
 or-no-left true b e = e
 or-no-left false b e = refl

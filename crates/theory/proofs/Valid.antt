@@ -11,11 +11,11 @@ use lib.Dec.{leb, ltb}
 use lib.ListN.{length, getD, take}
 use lib.Seq.{getD-take}
 use borrow.Author.Tests.{leb-false, lt-leb, ltb-true, ltb-false, lt-ltb, le-ltb}
-use Rattle.theory.specs.Lists.{some}
+use Rattle.theory.specs.Lists.{anyBelow}
 use Rattle.theory.specs.Sets.{within}
 use Rattle.theory.specs.Forms.{Valid, containsEarlier, isBad}
 use Rattle.theory.proofs.Tests.{which, or-no-left, or-no-right}
-use Rattle.theory.proofs.Lists.{some-none, some-no, mem-index, index-mem}
+use Rattle.theory.proofs.Lists.{any-below-none, any-below-no, mem-index, index-mem}
 use Rattle.theory.proofs.Searches.{first-cong}
 
 -- every term is a set of w positions; of two, the later is above the earlier and does not contain it
@@ -37,10 +37,15 @@ apart-valid w (m ∷ f) h = (
 )
   where
     later : (k : ℕ) → (j : ℕ) × (j < length f) × (getD f j 0 ≡ k) → (m < k) × (within m k ≡ false)
-    later k (j, l, e) = rw (← e) (h .rises 0 (suc j) (suc-le-suc zero-le) (suc-le-suc l), h .bare 0 (suc j) (suc-le-suc zero-le) (suc-le-suc l))
+    later k (j, l, e) =
+        rw (← e) (h .rises 0 (suc j) (suc-le-suc zero-le) (suc-le-suc l), h .bare 0 (suc j) (suc-le-suc zero-le) (suc-le-suc l))
 
 valid-apart : (w : ℕ) (ts : List ℕ) → Valid w ts → Apart w ts
-valid-apart w [] ok = record { small = λ i l. absurd (not-suc-le-zero l); rises = λ i j l u. absurd (not-suc-le-zero u); bare = λ i j l u. absurd (not-suc-le-zero u) }
+valid-apart w [] ok = record {
+  small = λ i l. absurd (not-suc-le-zero l);
+  rises = λ i j l u. absurd (not-suc-le-zero u);
+  bare = λ i j l u. absurd (not-suc-le-zero u);
+}
 valid-apart w (m ∷ f) ok = go (valid-apart w f (ok .2))
   where
     go : Apart w f → Apart w (m ∷ f)
@@ -84,7 +89,9 @@ module _ (w : ℕ) (ts : List ℕ) (fine : (i : ℕ) → i < length ts → isBad
 
   fine-bare : (i j : ℕ) → i < j → j < length ts → within (getD ts i 0) (getD ts j 0) ≡ false
   unfolding isBad containsEarlier
-  fine-bare i j l u = some-no (λ k. within (getD ts k 0) (getD ts j 0)) j (or-no-right (leb (2 ^ w) (getD ts j 0) || (ltb 0 j && leb (getD ts j 0) (getD ts (j - 1) 0))) _ (fine j u)) i l
+  fine-bare i j l u =
+      any-below-no (λ k. within (getD ts k 0) (getD ts j 0)) j
+      (or-no-right (leb (2 ^ w) (getD ts j 0) || (ltb 0 j && leb (getD ts j 0) (getD ts (j - 1) 0))) _ (fine j u)) i l
 
   pub fine-valid : Valid w ts
   fine-valid = apart-valid w ts (record { small = fine-small; rises = fine-rises; bare = fine-bare })
@@ -96,11 +103,16 @@ valid-fine w ts ok i l = go i l
     h : Apart w ts
     h = valid-apart w ts ok
 
-    go : (i : ℕ) → i < length ts → (leb (2 ^ w) (getD ts i 0) || (ltb 0 i && leb (getD ts i 0) (getD ts (i - 1) 0)) || some (λ j. within (getD ts j 0) (getD ts i 0)) i) ≡ false
-    go zero l = rw (lt-leb (2 ^ w) _ (h .small 0 l), le-ltb 0 0 zero-le, some-none (λ j. within (getD ts j 0) (getD ts 0 0)) 0 (λ j k. h .bare j 0 k l))
+    none-within : (i : ℕ) → i < length ts → anyBelow (λ j. within (getD ts j 0) (getD ts i 0)) i ≡ false
+    none-within i l = any-below-none (λ j. within (getD ts j 0) (getD ts i 0)) i (λ j k. h .bare j i k l)
+
+    go : (i : ℕ) → i < length ts → (leb (2 ^ w) (getD ts i 0) || (ltb 0 i && leb (getD ts i 0) (getD ts (i - 1) 0)) || containsEarlier ts i)
+        ≡ false
+    go zero l = rw (lt-leb (2 ^ w) _ (h .small 0 l), le-ltb 0 0 zero-le, none-within 0 l)
     go (suc i) l =
         let e : (suc i - 1) ≡ i = omega arith in
-        rw (lt-leb (2 ^ w) _ (h .small (suc i) l), e, lt-leb (getD ts (suc i) 0) (getD ts i 0) (h .rises i (suc i) (omega arith) l), some-none (λ j. within (getD ts j 0) (getD ts (suc i) 0)) (suc i) (λ j k. h .bare j (suc i) k l)) (and-no (ltb 0 (suc i)))
+        let up = lt-leb (getD ts (suc i) 0) (getD ts i 0) (h .rises i (suc i) (omega arith) l) in
+        rw (lt-leb (2 ^ w) _ (h .small (suc i) l), e, up, none-within (suc i) l) (and-no (ltb 0 (suc i)))
       where
         and-no : (b : Bool) → ((b && false) || false) ≡ false
         and-no true = refl
@@ -118,15 +130,17 @@ form-short w [] ok = zero-le
 form-short w (m ∷ f) ok = omega (arith, room w m f ok)
 
 -- so a longer list has a bad term
-pub long-bad : (w : ℕ) (ts : List ℕ) → 2 ^ w < length ts → some (isBad w ts) (length ts) ≡ true
-long-bad w ts h = go (which (some (isBad w ts) (length ts)))
+pub long-bad : (w : ℕ) (ts : List ℕ) → 2 ^ w < length ts → anyBelow (isBad w ts) (length ts) ≡ true
+long-bad w ts h = go (which (anyBelow (isBad w ts) (length ts)))
   where
-    go : (some (isBad w ts) (length ts) ≡ true) ⊎ (some (isBad w ts) (length ts) ≡ false) → some (isBad w ts) (length ts) ≡ true
+    go : (anyBelow (isBad w ts) (length ts) ≡ true) ⊎ (anyBelow (isBad w ts) (length ts) ≡ false) → anyBelow (isBad w ts) (length ts) ≡ true
     go (inl e) = e
-    go (inr e) = absurd (omega (arith, form-short w ts (fine-valid w ts (some-no (isBad w ts) (length ts) e))))
+    go (inr e) = absurd (omega (arith, form-short w ts (fine-valid w ts (any-below-no (isBad w ts) (length ts) e))))
 
 -- an index is bad of the list where it is of its front
 pub bad-front : (w n : ℕ) (ts : List ℕ) (i : ℕ) → i < n → isBad w (take n ts) i ≡ isBad w ts i
-unfolding isBad containsEarlier some
+unfolding isBad containsEarlier anyBelow
 bad-front w n ts i h =
-    rw (getD-take n ts i 0 h, getD-take n ts (i - 1) 0 (omega arith), first-cong (λ j. within (getD (take n ts) j 0) (getD ts i 0)) (λ j. within (getD ts j 0) (getD ts i 0)) i (λ j l. ap (λ (t : ℕ). within t (getD ts i 0)) (getD-take n ts j 0 (omega arith))))
+    let same = first-cong (λ j. within (getD (take n ts) j 0) (getD ts i 0)) (λ j. within (getD ts j 0) (getD ts i 0)) i
+    (λ j l. ap (λ (t : ℕ). within t (getD ts i 0)) (getD-take n ts j 0 (omega arith))) in
+    rw (getD-take n ts i 0 h, getD-take n ts (i - 1) 0 (omega arith), same)

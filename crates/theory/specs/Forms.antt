@@ -1,13 +1,14 @@
--- Forms: lists of terms, a term being a set of the window's w positions. The Boolean function, the filter's value, and which lists are forms.
+-- Forms: lists of terms, a term being a set of the window's w positions. The Boolean function, the filter's value,
+-- and which lists are forms.
 use mathlib.Core.Path.{_≡_}
 use mathlib.Core.Bool.{Bool, true, false, not, _&&_, _||_}
 use mathlib.Core.List.{List, [], _∷_, List·Memᴰ}
 use Prim.Native.Nat.{ℕ, _-_, _^_, _<_}
 use lib.Dec.{leb, ltb}
-use lib.ListN.{length, getD}
-use Rattle.theory.specs.Lists.{any, keep, from, some, tally}
-use Rattle.theory.specs.Sets.{gather, within, places}
-use Rattle.theory.specs.Orders.{Order, greatest, least, counts}
+use lib.ListN.{getD}
+use Rattle.theory.specs.Lists.{any, keep, from, anyBelow, tally}
+use Rattle.theory.specs.Sets.{gather, within, positions}
+use Rattle.theory.specs.Orders.{Order, largest, smallest, counts}
 
 -- ---- the function and the filter
 
@@ -18,11 +19,11 @@ holds form v = any (λ m. within m v) form
 module _ {A : Type 0} (O : Order A) (w : ℕ) where
   -- cut at level t: the pattern of the positions whose value is at least t
   unfoldable pub cut : (ℕ → A) → A → ℕ
-  cut n t = gather w (λ i. O .leq t (n i))
+  cut n t = gather w (λ i. O t (n i))
 
   -- the largest, over the terms, of the smallest value that the term reaches; lo for no term, hi for the term with no position
   unfoldable pub value : A → A → List ℕ → (ℕ → A) → A
-  value lo hi form n = greatest O lo (λ m. least O hi n (places w m)) form
+  value lo hi form n = largest O lo (λ m. smallest O hi n (positions w m)) form
 
 -- the number of levels 1 .. top whose cut makes the form's function 1
 unfoldable pub levels : ℕ → ℕ → List ℕ → (ℕ → ℕ) → ℕ
@@ -37,7 +38,7 @@ Valid w (m ∷ f) = (m < 2 ^ w) × ((k : ℕ) → List·Memᴰ k f → (m < k) �
 
 -- the term at i contains an earlier one
 unfoldable pub containsEarlier : List ℕ → ℕ → Bool
-containsEarlier ts i = some (λ j. within (getD ts j 0) (getD ts i 0)) i
+containsEarlier ts i = anyBelow (λ j. within (getD ts j 0) (getD ts i 0)) i
 
 -- what 7 refuses: the term at i is no set of w positions, is not above its predecessor, or contains an earlier one
 unfoldable pub isBad : ℕ → List ℕ → ℕ → Bool

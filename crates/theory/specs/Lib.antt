@@ -7,4 +7,3 @@ pub mod Forms
 pub mod Tables
 pub mod Signals
 pub mod Plans
-pub mod Recipes

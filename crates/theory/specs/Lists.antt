@@ -41,8 +41,8 @@ first p zero = zero
 first p (suc n) = cond (p zero) zero (suc (first (λ k. p (suc k)) n))
 
 -- some k < n passes
-unfoldable pub some : (ℕ → Bool) → ℕ → Bool
-some p n = ltb (first p n) n
+unfoldable pub anyBelow : (ℕ → Bool) → ℕ → Bool
+anyBelow p n = ltb (first p n) n
 
 -- a truth value as a number
 unfoldable pub bit : Bool → ℕ
@@ -55,6 +55,6 @@ tally zero p = 0
 tally (suc n) p = tally n p + bit (p (suc n))
 
 -- f 0 + f 1 + .. + f (n - 1)
-unfoldable pub total : ℕ → (ℕ → ℕ) → ℕ
-total zero f = 0
-total (suc n) f = total n f + f n
+unfoldable pub sum : ℕ → (ℕ → ℕ) → ℕ
+sum zero f = 0
+sum (suc n) f = sum n f + f n

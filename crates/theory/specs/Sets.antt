@@ -21,9 +21,9 @@ unfoldable pub within : ℕ → ℕ → Bool
 within a b = eqb (bitAnd a b) a
 
 -- the positions of v below w, ascending
-unfoldable pub places : ℕ → ℕ → List ℕ
-places w v = keep (has v) (from 0 w)
+unfoldable pub positions : ℕ → ℕ → List ℕ
+positions w v = keep (has v) (from 0 w)
 
 -- v with the position i too
-unfoldable pub with-place : ℕ → ℕ → ℕ
-with-place v i = bitOr v (2 ^ i)
+unfoldable pub with-position : ℕ → ℕ → ℕ
+with-position v i = bitOr v (2 ^ i)

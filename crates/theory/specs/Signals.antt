@@ -1,62 +1,105 @@
--- Signals: endless signals over ℤ, a list made endless by a rule for its ends, the window through which a form sees one, and the filter of a scan.
-use mathlib.Core.List.{List}
-use Prim.Native.Nat.{ℕ, suc, _+_, _-_, _≤_, min}
+-- Signals: endless signals over ℤ, a list made endless by an ends rule, the window through which a form sees one, and the filter of a scan.
+use mathlib.Core.Bool.{Bool, _&&_}
+use mathlib.Core.List.{List, map}
+use Prim.Native.Nat.{ℕ, suc, _+_, _-_, _≤_}
 use lib.ListN.{length, getD}
-use lib.IntN.{ℤ, pos, negsuc, negℤ, subℕ, _+ℤ_, _-ℤ_}
-use Rattle.theory.specs.Lists.{tab}
+use lib.IntN.{ℤ, pos, negsuc, subℕ, _+ℤ_, _-ℤ_}
+use Rattle.limits.specs.Limits.{reach, width, mostSamples, top}
+use Rattle.theory.specs.Lists.{any, tab}
+use Rattle.theory.specs.Sets.{positions}
+use Rattle.theory.specs.Orders.{largest, smallest, ints}
 use Rattle.theory.specs.Forms.{levels}
 
--- held: the first and the last value repeated without end; zeros: nothing outside
+-- ---- beyond the ends of a list
+
+-- an ends rule: the first and the last value are repeated without end, or there is nothing outside
 pub data Ends : Type 0 where
   held : Ends
   zeros : Ends
 
--- the endless signal of a list; z stands for nothing
-unfoldable pub endless : {A : Type 0} → A → Ends → List A → ℤ → A
-endless z held s (pos n) = getD s (min n (length s - 1)) z
-endless z held s (negsuc n) = getD s 0 z
-endless z zeros s (pos n) = getD s n z
-endless z zeros s (negsuc n) = z
+module _ {A : Type 0} where
+  -- what stands to the left of a list; z stands for nothing
+  unfoldable pub before : A → Ends → List A → A
+  before z held s = getD s 0 z
+  before z zeros s = z
 
--- a window: each of its positions stands for an offset, left .. right
+  -- what stands to the right of it
+  unfoldable pub after : A → Ends → List A → A
+  after z held s = getD s (length s - 1) z
+  after z zeros s = z
+
+  -- the list with l to its left and r to its right, without end
+  unfoldable pub between : A → A → List A → ℤ → A
+  between l r s (pos n) = getD s n r
+  between l r s (negsuc n) = l
+
+  -- the endless signal of a list
+  unfoldable pub endless : A → Ends → List A → ℤ → A
+  endless z ends s = between (before z ends s) (after z ends s) s
+
+-- ---- windows
+
+-- a window on a row: each of its positions stands in a column, and column k stands for the offset k - far
 pub record Window : Type 0 where
-  pub width : ℕ
-  pub left : ℤ
-  pub right : ℤ
-  pub offset : ℕ → ℤ
+  pub far : ℕ
+  pub column : ℕ → ℕ
 
--- one row of offsets -r .. r: position i stands for i - r
-unfoldable pub row : ℕ → Window
-row r = record { width = suc (r + r); left = negℤ (pos r); right = pos r; offset = λ i. subℕ i r }
+module _ (W : Window) where
+  -- one position to each of the offsets -far .. far
+  unfoldable pub wide : ℕ
+  wide = suc (W .far + W .far)
 
--- offset d is worth 2 ^ (d + 4): the base's window
-unfoldable pub nine : Window
-nine = row 4
+  -- the offset that a position stands for
+  unfoldable pub offset : ℕ → ℤ
+  offset i = subℕ (W .column i) (W .far)
 
--- what the window sees at x
-unfoldable pub seen : {A : Type 0} → Window → (ℤ → A) → ℤ → ℕ → A
-seen W g x i = g (x +ℤ W .offset i)
+  -- the offsets of a set, and how many they are
+  unfoldable pub offsets : ℕ → List ℤ
+  offsets B = map offset (positions wide B)
+
+  unfoldable pub size : ℕ → ℕ
+  size B = length (positions wide B)
+
+  -- what the window sees at x
+  unfoldable pub seen : {A : Type 0} → (ℤ → A) → ℤ → ℕ → A
+  seen g x i = g (x +ℤ offset i)
+
+-- the least and the greatest of some offsets; 0 of none
+unfoldable pub leftmost : List ℤ → ℤ
+leftmost bs = smallest ints (pos 0) (λ b. b) bs
+
+unfoldable pub rightmost : List ℤ → ℤ
+rightmost bs = largest ints (pos 0) (λ b. b) bs
+
+-- two integers are one: each is at most the other
+unfoldable pub sameZ : ℤ → ℤ → Bool
+sameZ a b = ints a b && ints b a
+
+-- the 0/1 signal that is 1 exactly at the offsets of v
+unfoldable pub spread : Window → ℕ → ℤ → Bool
+spread W v d = any (λ i. sameZ (offset W i) d) (positions (wide W) v)
+
+-- offset d is worth 2 ^ (d + 4): the positions stand in the order of their offsets
+unfoldable pub window : Window
+window = record { far = reach; column = λ i. i }
 
 -- ---- scans of counts
 
 -- a scan: 1 to 16,384 samples, each 0 to 65,535
 pub record Scan (s : List ℕ) : Type 0 where
-  pub some : 1 ≤ length s
-  pub most : length s ≤ 16384
-  pub each : (i : ℕ) → getD s i 0 ≤ 65535
+  pub nonempty : 1 ≤ length s
+  pub short : length s ≤ mostSamples
+  pub small : (i : ℕ) → getD s i 0 ≤ top
 
--- the endless signal of a scan: its end samples are repeated without end
-unfoldable pub endlessScan : List ℕ → ℤ → ℕ
-endlessScan s = endless 0 held s
+module _ (ends : Ends) where
+  -- demand 2: the filter of a form at x, the number of levels 1 .. 65,535 whose cut makes the form's function 1 around x
+  unfoldable pub filteredAt : List ℕ → List ℕ → ℕ → ℕ
+  filteredAt form s x = levels width top form (seen window (endless 0 ends s) (pos x))
 
--- demand 2: the filter of a form at x, the number of levels 1 .. 65,535 whose cut makes the form's function 1 around x
-unfoldable pub filteredAt : List ℕ → List ℕ → ℕ → ℕ
-filteredAt form s x = levels 9 65535 form (seen nine (endlessScan s) (pos x))
+  -- the filter at each sample
+  unfoldable pub cleaned : List ℕ → List ℕ → List ℕ
+  cleaned form s = tab (length s) (filteredAt form s)
 
--- the filter at each sample
-unfoldable pub cleaned : List ℕ → List ℕ → List ℕ
-cleaned form s = tab (length s) (filteredAt form s)
-
--- raw minus cleaned at x
-unfoldable pub residueAt : List ℕ → List ℕ → ℕ → ℤ
-residueAt form s x = pos (getD s x 0) -ℤ pos (filteredAt form s x)
+  -- raw minus cleaned at x
+  unfoldable pub residueAt : List ℕ → List ℕ → ℕ → ℤ
+  residueAt form s x = pos (getD s x 0) -ℤ pos (filteredAt form s x)

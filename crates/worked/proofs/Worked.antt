@@ -1,34 +1,46 @@
--- The twelve worked cases hold. Each is tested by computing (a form by its function on all 512 patterns, a cleaned scan by its values), and
--- one law turns the test into the claim.
+-- The twelve worked cases hold. Each is tested by computing (a form by its function on all patterns, a cleaned scan by its values), and one
+-- law turns the test into the claim.
 -- Assumes nothing.
-use Prim.Native.Nat.{ℕ, _≤_, suc, zero}
+use Prim.Native.Nat.{ℕ, suc, zero}
 use native.Mathlib.Omega.{arith}
-use mathlib.Core.Path.{_≡_, refl, sym, ap, _∙_}
-use mathlib.Core.Bool.{Bool, true, false, not, _&&_, _||_, cond}
-use mathlib.Core.List.{List, [], _∷_, List·Memᴰ, List·Memᴰ·head, List·Memᴰ·tail}
-use mathlib.Core.Option.{Option, none, some}
-use lib.IntN.{ℤ, pos}
-use lib.ListN.{length, getD}
+use mathlib.Core.Path.{_≡_, refl, _∙_}
+use mathlib.Core.Bool.{Bool, true, false, _&&_}
+use mathlib.Core.List.{List, [], _∷_, List·Memᴰ}
+use mathlib.Core.Option.{bind}
+use lib.IntN.{pos}
+use lib.ListN.{length}
 use lib.Dec.{leb, eqb}
 use borrow.Author.Tests.{leb-true, eqb-true}
-use Rattle.theory.specs.Lists.{all, any, put, keep, tab, from, bit}
-use Rattle.theory.specs.Sets.{has, gather, within, places}
-use Rattle.theory.specs.Orders.{larger, smaller, greatest, least, bools, counts, ints}
+use Rattle.limits.specs.Limits.{width, top}
+use Rattle.theory.specs.Lists.{all, any, keep, tab, from, bit}
+use Rattle.theory.specs.Sets.{has, gather, within, positions}
+use Rattle.theory.specs.Orders.{larger, smaller, largest, smallest, counts}
 use Rattle.theory.specs.Ranks.{insert, falling, ranked, pick}
-use Rattle.theory.specs.Forms.{holds, value, formOf, minimal}
-use Rattle.theory.specs.Signals.{endless, endlessScan, nine, row, seen, cleaned, filteredAt}
-use Rattle.theory.specs.Plans.{meaning, truth, spread, sameZ, lo, hi, leftmost, rightmost}
-use Rattle.theory.specs.Recipes.{offsets, size, eroded, dilated, on-one, top, two, push, act, plans}
+use Rattle.theory.specs.Forms.{holds, value}
+use Rattle.theory.specs.Signals.{held, before, after, between, endless, window, wide, offset, offsets, size, seen, cleaned, spread, sameZ, leftmost, rightmost}
 use Rattle.theory.proofs.Tests.{and-left, and-right}
 use Rattle.theory.proofs.Lists.{all-at, tab-cong}
 use Rattle.theory.proofs.Canon.{isForm, is-form, sound, sound-valid, valid-terms, alike}
-use Rattle.theory.proofs.Demands.{filtered-value}
+use Rattle.theory.proofs.Demands.{Samples, filtered-value}
+use Rattle.refusals.specs.declared.Checked.{Checked}
+use Rattle.refusals.specs.declared.Checked.the-variants as checked
 use Rattle.recipes.specs.Steps.{decodedOf, stepAt, rankFits, oddSet}
-use Rattle.runner.specs.Run.{ranAt, ran}
+use Rattle.recipes.specs.Machine.{added, replaced, joined, eroded, dilated, rankedBy, act, signals, bothReach, reaches}
+use Rattle.recipes.specs.Judge.{isNear, inReach, lastIn, onward, stepped, judgedFrom, judged, badLength, recipeChecked}
+use Rattle.recipes.specs.Meaning.{theOne, done, run, made, valueAt, truthOf}
+use Rattle.runner.specs.Run.{ran}
 use Rattle.compiler.specs.Compile.{compiledForm}
-use Rattle.recipes.specs.Reaches.{reachOf, stays}
-use Rattle.recipes.specs.Judge.{inReach, topReach, onward, stepped, ended, judgedFrom, badLength, judged, planOf}
 use Rattle.worked.specs.Cases.{Case, compiles, cleans, runs, Claim, cases}
+
+-- a check that finds nothing
+isFine : Checked → Bool
+isFine checked.Fine = true
+isFine (checked.Refused r) = false
+
+fine-is : (c : Checked) → isFine c ≡ true → c ≡ checked.Fine
+unfolding isFine
+fine-is checked.Fine e = refl
+fine-is (checked.Refused r) e = let z : _≡_ {A = ℕ} 0 1 = cc in absurd (omega arith)
 
 -- two lists of numbers are one
 sameList : List ℕ → List ℕ → Bool
@@ -47,37 +59,50 @@ same-list (x ∷ xs) (y ∷ ys) e =
     let t = same-list xs ys (and-right (eqb x y) _ e) in
     cc
 
+-- every sample is at most the top
+allSmall : List ℕ → Bool
+allSmall s = all (λ v. leb v top) s
+
+all-small : (s : List ℕ) → allSmall s ≡ true → Samples s
+unfolding allSmall all
+all-small [] e i = omega arith
+all-small (x ∷ xs) e zero = leb-true x top (and-left _ _ e)
+all-small (x ∷ xs) e (suc i) = all-small xs (and-right (leb x top) _ e) i
+
 -- the filter's values, by the largest of the smallest
 values : List ℕ → List ℕ → List ℕ
-values form s = tab (length s) (λ x. value counts 9 0 65535 form (seen nine (endlessScan s) (pos x)))
+values form s = tab (length s) (λ x. value counts width 0 top form (seen window (endless 0 held s) (pos x)))
+
+values-cleaned : (form s : List ℕ) → sound width form ≡ true → allSmall s ≡ true → cleaned held form s ≡ values form s
+unfolding cleaned values
+values-cleaned form s e h =
+    tab-cong (length s) _ _ (λ x l. filtered-value held form s (valid-terms width form (sound-valid width form e)) (all-small s h) x)
 
 -- the test of a case
 passes : Case → Bool
-passes (compiles recipe form) = isForm 9 (truth nine (planOf recipe)) form
-passes (cleans form scan out) = sound 9 form && (all (λ v. leb v 65535) scan && sameList (values form scan) out)
-passes (runs recipe scan out) = sameList (ran recipe scan) out
+passes (compiles recipe form) = isFine (recipeChecked recipe) && isForm width (truthOf recipe) form
+passes (cleans form scan out) = sound width form && (allSmall scan && sameList (values form scan) out)
+passes (runs recipe scan out) = isFine (recipeChecked recipe) && sameList (ran held recipe scan) out
 
 tested : all passes cases ≡ true
-unfolding passes values ran ranAt sameList isForm sound alike all any keep tab from bit has within places larger smaller greatest least bools counts ints insert falling ranked pick holds value seen nine row endless endlessScan meaning truth spread sameZ lo hi leftmost rightmost offsets size eroded dilated on-one top two push act plans decodedOf stepAt rankFits oddSet reachOf stays inReach topReach onward stepped ended judgedFrom badLength judged planOf
+unfolding passes isFine sameList allSmall values isForm sound alike all any keep tab from bit has gather within positions
+    larger smaller largest smallest insert falling ranked pick holds value before after between endless window wide offset offsets size seen
+    spread sameZ leftmost rightmost decodedOf stepAt rankFits oddSet added replaced joined eroded dilated rankedBy act signals
+    bothReach reaches
+    isNear inReach lastIn onward stepped judgedFrom judged badLength recipeChecked theOne bind done run made valueAt truthOf ran
 tested = refl
-
-small : (s : List ℕ) → all (λ v. leb v 65535) s ≡ true → (i : ℕ) → getD s i 0 ≤ 65535
-unfolding all
-small [] e i = omega arith
-small (x ∷ xs) e zero = leb-true x 65535 (and-left _ _ e)
-small (x ∷ xs) e (suc i) = small xs (and-right (leb x 65535) _ e) i
-
-values-cleaned : (form s : List ℕ) → sound 9 form ≡ true → all (λ v. leb v 65535) s ≡ true → cleaned form s ≡ values form s
-unfolding cleaned values
-values-cleaned form s e h = tab-cong (length s) _ _ (λ x l. filtered-value form s (valid-terms 9 form (sound-valid 9 form e)) (small s h) x)
 
 passes-claim : (c : Case) → passes c ≡ true → Claim c
 unfolding passes compiledForm
-passes-claim (compiles recipe form) e = is-form 9 _ form e
+passes-claim (compiles recipe form) e =
+    let fine = isFine (recipeChecked recipe) in
+    (fine-is (recipeChecked recipe) (and-left fine _ e), is-form width (truthOf recipe) form (and-right fine _ e))
 passes-claim (cleans form scan out) e =
-    let r = and-right (sound 9 form) _ e in
-    values-cleaned form scan (and-left _ _ e) (and-left _ _ r) ∙ same-list (values form scan) out (and-right (all (λ v. leb v 65535) scan) _ r)
-passes-claim (runs recipe scan out) e = same-list (ran recipe scan) out e
+    let r = and-right (sound width form) _ e in
+    values-cleaned form scan (and-left _ _ e) (and-left _ _ r) ∙ same-list (values form scan) out (and-right (allSmall scan) _ r)
+passes-claim (runs recipe scan out) e =
+    let fine = isFine (recipeChecked recipe) in
+    (fine-is (recipeChecked recipe) (and-left fine _ e), same-list (ran held recipe scan) out (and-right fine _ e))
 
 pub worked : (c : Case) → List·Memᴰ c cases → Claim c
 worked c m = passes-claim c (all-at passes tested m)

@@ -2,7 +2,9 @@
 use Prim.Native.Nat.{ℕ}
 use mathlib.Core.Path.{_≡_}
 use mathlib.Core.List.{List, [], _∷_}
-use Rattle.theory.specs.Signals.{cleaned}
+use Rattle.theory.specs.Signals.{held, cleaned}
+use Rattle.refusals.specs.declared.Checked.the-variants.{Fine}
+use Rattle.recipes.specs.Judge.{recipeChecked}
 use Rattle.runner.specs.Run.{ran}
 use Rattle.compiler.specs.Compile.{compiledForm}
 
@@ -12,19 +14,21 @@ pub data Case : Type 0 where
   cleans : List ℕ → List ℕ → List ℕ → Case
   runs : List ℕ → List ℕ → List ℕ → Case
 
--- what a case claims; a cleaned scan by the count of levels
+-- what a case claims, the ends held: the recipe is accepted; a cleaned scan is by the count of levels
 abbrev pub Claim : Case → Type 0
-Claim (compiles recipe form) = compiledForm recipe ≡ form
-Claim (cleans form scan out) = cleaned form scan ≡ out
-Claim (runs recipe scan out) = ran recipe scan ≡ out
+Claim (compiles recipe form) = (recipeChecked recipe ≡ Fine) × (compiledForm recipe ≡ form)
+Claim (cleans form scan out) = cleaned held form scan ≡ out
+Claim (runs recipe scan out) = (recipeChecked recipe ≡ Fine) × (ran held recipe scan ≡ out)
 
 -- the steps' bytes: code, rank, set (two bytes, low first)
 abbrev pub signal : List ℕ → List ℕ
 signal rest = 0 ∷ 0 ∷ 0 ∷ 0 ∷ rest
 
+-- a step with a set and no rank
 abbrev pub step : ℕ → ℕ → List ℕ → List ℕ
 step code set rest = code ∷ 0 ∷ set ∷ 0 ∷ rest
 
+-- the table
 abbrev pub cases : List Case
 cases =
     compiles (signal []) (16 ∷ [])

@@ -1,38 +1,27 @@
--- `compiler::compile` meets its contract. Assumes nothing.
+-- `compiler::compile` meets its contract: a refused recipe changes nothing, and an accepted one becomes the form of its truth table.
+-- Assumes nothing.
 use borrow.Author.Needs.{needs}
+use mathlib.Core.Path.{sym, _∙_}
 use Rattle.compiler.proofs.Compiles.{compile-refused, compile-done}
 use Rattle.compiler.proofs.compile.Statement.{statement}
 use Rattle.compiler.proofs.compile.Tie as tie
 
-show-patterns-requires : tie.Need-show-patterns-requires
-show-patterns-requires c κs = search needs
+judge-requires : tie.Need-judge-requires
+judge-requires c κs = search needs
 
-slice-aggregate-run : tie.Need-slice-aggregate-run
-slice-aggregate-run c = search needs
-
-slice-aggregate-run-2 : tie.Need-slice-aggregate-run-2
-slice-aggregate-run-2 c = search needs
-
-run-requires : tie.Need-run-requires
-run-requires c κs = search needs
-
-enum-known-answer : tie.Need-enum-known-answer
-enum-known-answer c = search needs
+enum-known-checked : tie.Need-enum-known-checked
+enum-known-checked c = search needs
 
 returns : tie.Need-returns
 returns c =
-    let at = c .before .before .before .before in
-    let known = c .before .answer .given .1 in
-    compile-refused _ _ (search needs) _ _ _ (rw known at (rw (at .before .before .before .show-patterns .ensures) at (at .run .ensures)))
+    let judged = c .before .before .before in
+    compile-refused _ _ _ (sym (judged .judge .ensures) ∙ c .before .checked .given .1)
 
 enum-told : tie.Need-enum-told
 enum-told c = search needs
 
-slice-aggregate-read-table : tie.Need-slice-aggregate-read-table
-slice-aggregate-read-table c = search needs
-
-read-table-requires : tie.Need-read-table-requires
-read-table-requires c κs = search needs
+tabulate-requires : tie.Need-tabulate-requires
+tabulate-requires c κs = sym (c .before .before .judge .ensures) ∙ c .enum-told .given .1
 
 slice-aggregate-table-to-form : tie.Need-slice-aggregate-table-to-form
 slice-aggregate-table-to-form c = search needs
@@ -46,26 +35,21 @@ same-length c = search needs
 returns-2 : tie.Need-returns-2
 returns-2 c =
     let formed = c .before .before in
-    let read = formed .before .before .before in
-    let told = read .before .before in
-    let ran = told .before .before .before in
-    compile-done _ _ (search needs) _ _ _ _ _ _
-    (rw (told .enum-told .given .1) at (rw (ran .before .before .before .show-patterns .ensures) at (ran .run .ensures)))
-    (read .read-table .ensures) (formed .table-to-form .ensures)
+    let tabled = formed .before .before .before in
+    let told = tabled .before in
+    let judged = told .before .before in
+    let fine = sym (judged .judge .ensures) ∙ told .enum-told .given .1 in
+    compile-done _ _ _ _ _ fine (tabled .tabulate .ensures) (formed .table-to-form .ensures)
 
 pub compile-spec : {M : Type 1} → statement M
 compile-spec =
     tie.close
     (tie.spec
-    show-patterns-requires
-    slice-aggregate-run
-    slice-aggregate-run-2
-    run-requires
-    enum-known-answer
+    judge-requires
+    enum-known-checked
     returns
     enum-told
-    slice-aggregate-read-table
-    read-table-requires
+    tabulate-requires
     slice-aggregate-table-to-form
     table-to-form-requires
     same-length

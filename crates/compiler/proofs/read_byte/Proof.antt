@@ -1,64 +1,60 @@
--- `compiler::read_byte` meets its contract. Assumes nothing.
+-- `compiler::read_byte` meets its contract: the first i values are read. Assumes nothing.
 use borrow.Author.Needs.{needs}
-use Prim.Native.Nat.{ℕ, _+_, _*_, _-_, _≤_, _<_}
+use Prim.Native.Nat.{_+_, _*_, _-_}
 use native.Mathlib.Omega.{arith}
-use mathlib.Core.Path.{_≡_, sym, ap₂, _∙_}
-use mathlib.Core.Bool.{Bool}
-use lib.ListN.{length}
-use Rattle.theory.specs.Sets.{gather}
-use Rattle.theory.proofs.Gathers.{gather-none, gather-more, gather-all, gather-byte}
-use Rattle.compiler.specs.Patterns.{middles}
+use mathlib.Core.Path.{refl, _∙_}
+use Rattle.limits.specs.Limits.{byteBits}
+use Rattle.theory.proofs.Fills.{Filled, fill-none, fill-more}
+use Rattle.tables.proofs.Bytes.{filled-gather}
+use Rattle.compiler.specs.Patterns.{middleOf}
 use Rattle.compiler.proofs.read_byte.Statement.{statement}
 use Rattle.compiler.proofs.read_byte.Tie as tie
 
 abbrev Inv-loop : tie.InvT-loop
-Inv-loop out j byte₀ i₀ byte i = (i ≤ 8) × (byte < 256) × (byte ≡ gather (8 - i) (λ k. middles out (8 * j + (i + k))))
+Inv-loop out j values₀ i₀ values i = Filled (λ k. middleOf out (byteBits * j + k)) values₀ values i
 
 abbrev μ-loop : tie.MeasureT-loop
-μ-loop out j byte₀ i₀ byte i = i
+μ-loop out j values₀ i₀ values i = byteBits - i
 
 loop-holds : tie.Need-loop-holds Inv-loop μ-loop
-loop-holds c = (search needs, search needs, sym (gather-none _))
+loop-holds c = fill-none _ _
 
-sub-i : tie.Need-sub-i Inv-loop μ-loop
-sub-i c = search needs
+mul-values : tie.Need-mul-values Inv-loop μ-loop
+mul-values c = search needs
 
-mul-byte : tie.Need-mul-byte Inv-loop μ-loop
-mul-byte c = search needs
+add-values : tie.Need-add-values Inv-loop μ-loop
+add-values c = search needs
 
-mul-read-middle : tie.Need-mul-read-middle Inv-loop μ-loop
-mul-read-middle c = search needs
+mul-values-2 : tie.Need-mul-values-2 Inv-loop μ-loop
+mul-values-2 c = search needs
 
-add-read-middle : tie.Need-add-read-middle Inv-loop μ-loop
-add-read-middle c = search needs
+add-values-2 : tie.Need-add-values-2 Inv-loop μ-loop
+add-values-2 c = search needs
 
-read-middle-requires : tie.Need-read-middle-requires Inv-loop μ-loop
-read-middle-requires c κs = search needs
+mul-values-3 : tie.Need-mul-values-3 Inv-loop μ-loop
+mul-values-3 c = search needs
 
-add-byte : tie.Need-add-byte Inv-loop μ-loop
-add-byte c = search needs
+shared-slice-read-values : tie.Need-shared-slice-read-values Inv-loop μ-loop
+shared-slice-read-values c = search needs
+
+array-write-values : tie.Need-array-write-values Inv-loop μ-loop
+array-write-values c = search needs
+
+add-i : tie.Need-add-i Inv-loop μ-loop
+add-i c = search needs
 
 loop-less : tie.Need-loop-less Inv-loop μ-loop
 loop-less c = search needs
 
 loop-again : tie.Need-loop-again Inv-loop μ-loop
-loop-again c =
-    let at = c .before .before in
-    let a = at .before .before .args in
-    let p : ℕ → Bool = λ k. middles (a .out .now) (8 * a .j + k) in
-    let i = at .loop .i in
-    let more : at .loop .byte * 2 + c .read-middle .result ≡ gather (8 - (i - 1)) (λ k. p ((i - 1) + k)) =
-    ap₂ (λ (x y : ℕ). x * 2 + y) (at .loop .inv .2) (c .read-middle .ensures .0) ∙ sym (gather-more 8 i p (omega arith) (omega arith)) in
-    (omega arith, rw more (gather-byte (i - 1) _), more)
+unfolding middleOf
+loop-again c = fill-more (c .before .before .loop .inv) (omega arith) refl
 
-cast-result : tie.Need-cast-result Inv-loop μ-loop
-cast-result c = search needs
+byte-requires : tie.Need-byte-requires Inv-loop μ-loop
+byte-requires c κs = search needs
 
 returns : tie.Need-returns Inv-loop μ-loop
-returns c =
-    let at = c .before in
-    let a = at .before .before .args in
-    at .loop .inv .2 ∙ gather-all 8 (at .loop .i) (λ k. middles (a .out .now) (8 * a .j + k)) (omega arith)
+returns c = c .byte .ensures ∙ filled-gather (c .before .before .loop .inv) (omega arith)
 
 pub read-byte-spec : {M : Type 1} → statement M
 read-byte-spec =
@@ -67,13 +63,15 @@ read-byte-spec =
     Inv-loop
     μ-loop
     loop-holds
-    sub-i
-    mul-byte
-    mul-read-middle
-    add-read-middle
-    read-middle-requires
-    add-byte
+    mul-values
+    add-values
+    mul-values-2
+    add-values-2
+    mul-values-3
+    shared-slice-read-values
+    array-write-values
+    add-i
     loop-less
     loop-again
-    cast-result
+    byte-requires
     returns)

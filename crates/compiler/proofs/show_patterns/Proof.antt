@@ -1,52 +1,63 @@
--- `compiler::show_patterns` meets its contract. Assumes nothing.
+-- `compiler::show_patterns` meets its contract: the patterns before sample at are shown. Assumes nothing.
 use borrow.Author.Needs.{needs}
-use Prim.Native.Nat.{_-_, _≤_, _/_, _%_}
+use Prim.Native.Nat.{_-_, _%_}
 use native.Mathlib.Omega.{arith}
-use mathlib.Core.Path.{_≡_, _∙_}
-use mathlib.Core.List.{_++_, append-nil}
-use lib.ListN.{drop}
-use Rattle.theory.specs.Lists.{bit, tab}
-use Rattle.theory.specs.Sets.{has}
-use Rattle.theory.proofs.Lists.{tab-none, tab-more}
-use Rattle.compiler.specs.Patterns.{patternScan}
+use mathlib.Core.Path.{_≡_, refl}
+use lib.ListN.{length}
+use Rattle.limits.specs.Limits.{width}
+use Rattle.theory.proofs.Fills.{Filled, fill-none, fill-all}
+use Rattle.compiler.specs.Patterns.{sampleAt}
+use Rattle.compiler.proofs.Batches.{pattern-filled}
 use Rattle.compiler.proofs.show_patterns.Statement.{statement}
 use Rattle.compiler.proofs.show_patterns.Tie as tie
 
 abbrev Inv-loop : tie.InvT-loop
-Inv-loop scan₀ j₀ scan j = (j ≤ 4608) × (scan ≡ tab j (λ k. bit (has (k / 9) (k % 9))) ++ drop j scan₀)
+Inv-loop scan₀ first at₀ scan at = (at % width ≡ 0) × Filled (sampleAt first) scan₀ scan at
 
 abbrev μ-loop : tie.MeasureT-loop
-μ-loop scan₀ j₀ scan j = 4608 - j
+μ-loop scan₀ first at₀ scan at = length scan₀ - at
 
 loop-holds : tie.Need-loop-holds Inv-loop μ-loop
-loop-holds c = (search needs, tab-none _ _)
+loop-holds c = (refl, fill-none _ _)
 
-show-requires : tie.Need-show-requires Inv-loop μ-loop
-show-requires c κs = search needs
+add-next : tie.Need-add-next Inv-loop μ-loop
+add-next c = search needs
 
-mul-scan : tie.Need-mul-scan Inv-loop μ-loop
-mul-scan c = search needs
+mul-show-pattern : tie.Need-mul-show-pattern Inv-loop μ-loop
+mul-show-pattern c = search needs
 
-array-write-scan : tie.Need-array-write-scan Inv-loop μ-loop
-array-write-scan c = search needs
+sub-show-pattern : tie.Need-sub-show-pattern Inv-loop μ-loop
+sub-show-pattern c = search needs
 
-add-j : tie.Need-add-j Inv-loop μ-loop
-add-j c = search needs
+part-show-pattern-start : tie.Need-part-show-pattern-start Inv-loop μ-loop
+part-show-pattern-start c = search needs
+
+part-show-pattern-end : tie.Need-part-show-pattern-end Inv-loop μ-loop
+part-show-pattern-end c = search needs
+
+add-show-pattern : tie.Need-add-show-pattern Inv-loop μ-loop
+add-show-pattern c = search needs
+
+show-pattern-requires : tie.Need-show-pattern-requires Inv-loop μ-loop
+show-pattern-requires c κs = search needs
 
 loop-less : tie.Need-loop-less Inv-loop μ-loop
 loop-less c = search needs
 
 loop-again : tie.Need-loop-again Inv-loop μ-loop
 loop-again c =
-    let at = c .before .before in
-    (omega arith, rw (at .loop .inv .1, c .show .ensures) (tab-more 0 (λ k. bit (has (k / 9) (k % 9))) _ (at .loop .j) (omega arith)))
+    let showing = c .before .before in
+    let at = showing .before .before .before in
+    let i = at .loop .inv in (
+      omega arith,
+      pattern-filled (at .before .before .args .first) (i .1) (i .0) _ (omega arith) (showing .show-pattern .ensures),
+    )
+
+same-length : tie.Need-same-length Inv-loop μ-loop
+same-length c = search needs
 
 returns : tie.Need-returns Inv-loop μ-loop
-unfolding patternScan
-returns c =
-    let at = c .before in
-    let full : at .loop .j ≡ 4608 = omega arith in
-    at .loop .inv .1 ∙ rw (full, append-nil)
+returns c = fill-all (c .before .loop .inv .1) (omega arith)
 
 pub show-patterns-spec : {M : Type 1} → statement M
 show-patterns-spec =
@@ -55,10 +66,14 @@ show-patterns-spec =
     Inv-loop
     μ-loop
     loop-holds
-    show-requires
-    mul-scan
-    array-write-scan
-    add-j
+    add-next
+    mul-show-pattern
+    sub-show-pattern
+    part-show-pattern-start
+    part-show-pattern-end
+    add-show-pattern
+    show-pattern-requires
     loop-less
     loop-again
+    same-length
     returns)

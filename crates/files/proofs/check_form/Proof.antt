@@ -1,10 +1,11 @@
 -- `files::check_form` meets its contract. Assumes nothing.
 use borrow.Author.Needs.{needs}
-use Prim.Native.Nat.{ℕ}
 use native.Mathlib.Omega.{arith}
+use Prim.Native.Nat.{ℕ, _+_}
 use mathlib.Core.Path.{sym, ap, _∙_}
 use lib.ListN.{take}
 use lib.Seq.{length-take-le, take-at}
+use Rattle.limits.specs.Limits.{width, patterns}
 use Rattle.forms.specs.Check.{formChecked}
 use Rattle.files.specs.Bytes.{wordsFrom}
 use Rattle.files.proofs.Layouts.{length-words}
@@ -12,8 +13,8 @@ use Rattle.files.proofs.Fronts.{words-decide}
 use Rattle.files.proofs.check_form.Statement.{statement}
 use Rattle.files.proofs.check_form.Tie as tie
 
-least-requires : tie.Need-least-requires
-least-requires c κs = search needs
+cap-requires : tie.Need-cap-requires
+cap-requires c κs = search needs
 
 slice-aggregate-copy-words : tie.Need-slice-aggregate-copy-words
 slice-aggregate-copy-words c = search needs
@@ -32,19 +33,21 @@ check-requires c κs = search needs
 
 returns : tie.Need-returns
 returns c =
-    let a = c .before .before .before .before .before .before .before .args in
-    let k = c .before .before .before .before .before .least .result in
-    let front = wordsFrom (a .file .now) (a .at) k in
+    let copied = c .before .before .before in
+    let capped = copied .before .before in
+    let a = capped .before .before .args in
+    let k = capped .cap .result in
+    let f = a .file .now in
     c .check .ensures
-    ∙ ap formChecked (ap (take k) (c .before .before .before .copy-words .ensures) ∙ take-at front _ k (length-words (a .file .now) (a .at) k))
-    ∙ ap (λ (n : ℕ). formChecked (wordsFrom (a .file .now) (a .at) n)) (c .before .before .before .before .before .least .ensures)
-    ∙ words-decide 513 (a .file .now) (a .at) (a .n) (omega arith)
+    ∙ ap (formChecked width) (ap (take k) (copied .copy-words .ensures) ∙ take-at (wordsFrom f (a .at) k) _ k (length-words f (a .at) k))
+    ∙ ap (λ (n : ℕ). formChecked width (wordsFrom f (a .at) n)) (capped .cap .ensures)
+    ∙ words-decide width (patterns + 1) f (a .at) (a .n) (omega arith)
 
 pub check-form-spec : {M : Type 1} → statement M
 check-form-spec =
     tie.close
     (tie.spec
-    least-requires
+    cap-requires
     slice-aggregate-copy-words
     copy-words-requires
     array-share-prefix-terms

@@ -1,28 +1,27 @@
 -- `files::count_samples` meets its contract. Assumes nothing.
+use borrow.Author.Needs.{needs}
 use native.Mathlib.Omega.{arith}
-use Rattle.files.specs.Layout.{termsBack}
-use Rattle.files.proofs.Layouts.{well-laid, samples-counted}
+use Rattle.files.specs.Layout.{sampleCount}
+use Rattle.files.proofs.Layouts.{Laid, well-laid}
 use Rattle.files.proofs.count_samples.Statement.{statement}
 use Rattle.files.proofs.count_samples.Tie as tie
 
-sub-long : tie.Need-sub-long
-sub-long c = omega (arith, well-laid _ (c .before .pre) .long-enough)
+-- the file is laid out well
+laid : (start : tie.Start) → Laid (start .args .family) (start .args .file .now)
+laid start = well-laid (start .args .family) (start .args .file .now) (start .pre .1)
 
-long-requires : tie.Need-long-requires
-long-requires c κs = omega (arith, well-laid _ (c .before .pre) .long-enough)
+terms-back-requires : tie.Need-terms-back-requires
+terms-back-requires c κs = laid (c .before) .long-enough
 
 sub-result : tie.Need-sub-result
-unfolding termsBack
-sub-result c =
-    let l = well-laid (c .before .before .args .file .now) (c .before .before .pre) in
-    omega arith
+sub-result c = let l = laid (c .before .before) in omega (arith, l .in-order, l .to-samples)
+
+div-result : tie.Need-div-result
+div-result c = search needs
 
 returns : tie.Need-returns
-unfolding termsBack
-returns c =
-    let f = c .before .before .args .file .now in
-    let l = well-laid f (c .before .before .pre) in
-    rw (samples-counted f, l .to-samples, c .long .ensures)
+unfolding sampleCount
+returns c = rw (laid (c .before .before .before) .to-samples, ← c .before .terms-back .ensures)
 
 pub count-samples-spec : {M : Type 1} → statement M
-count-samples-spec = tie.close (tie.spec sub-long long-requires sub-result returns)
+count-samples-spec = tie.close (tie.spec terms-back-requires sub-result div-result returns)

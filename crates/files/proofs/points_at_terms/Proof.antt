@@ -1,43 +1,24 @@
 -- `files::points_at_terms` meets its contract. Assumes nothing.
 use borrow.Author.Needs.{needs}
-use Rattle.files.specs.Layout.{pointsAtTerms, termsBack, termCount}
+use native.Mathlib.Omega.{arith}
+use Rattle.files.specs.Layout.{termsDistance, pointsAtTerms}
 use Rattle.files.proofs.points_at_terms.Statement.{statement}
 use Rattle.files.proofs.points_at_terms.Tie as tie
 
-sub-word : tie.Need-sub-word
-sub-word c = search needs
+terms-back-requires : tie.Need-terms-back-requires
+terms-back-requires c κs = search needs
 
-word-requires : tie.Need-word-requires
-word-requires c κs = search needs
+count-terms-requires : tie.Need-count-terms-requires
+count-terms-requires c κs = search needs
 
-cast-terms : tie.Need-cast-terms
-cast-terms c = search needs
-
-sub-long : tie.Need-sub-long
-sub-long c = search needs
-
-long-requires : tie.Need-long-requires
-long-requires c κs = search needs
-
-mul-result : tie.Need-mul-result
-mul-result c = search needs
-
-add-result : tie.Need-add-result
-add-result c = search needs
+terms-distance-requires : tie.Need-terms-distance-requires
+unfolding termsDistance
+terms-distance-requires c κs = omega arith
 
 returns : tie.Need-returns
-unfolding pointsAtTerms termsBack termCount
+unfolding pointsAtTerms
 returns c = cc
 
 pub points-at-terms-spec : {M : Type 1} → statement M
 points-at-terms-spec =
-    tie.close
-    (tie.spec
-    sub-word
-    word-requires
-    cast-terms
-    sub-long
-    long-requires
-    mul-result
-    add-result
-    returns)
+    tie.close (tie.spec terms-back-requires count-terms-requires terms-distance-requires returns)

@@ -1,8 +1,8 @@
 -- `files::put_long` meets its contract. Assumes nothing.
 use borrow.Author.Needs.{needs}
 use Prim.Native.Nat.{_/_, _%_}
-use Rattle.files.specs.Bytes.{fourBytes, twoBytes}
 use Rattle.theory.proofs.Slices.{sets-append}
+use Rattle.files.specs.Bytes.{fourBytes, twoBytes}
 use Rattle.files.proofs.put_long.Statement.{statement}
 use Rattle.files.proofs.put_long.Tie as tie
 
@@ -27,8 +27,12 @@ same-length c = search needs
 returns : tie.Need-returns
 unfolding fourBytes twoBytes
 returns c =
-    let a = c .before .before .before .before .before .before .before .before .before .args in
-    rw (c .before .before .put-word2 .ensures, c .before .before .before .before .before .before .put-word .ensures) (sets-append (a .out .now) (a .at) (twoBytes (a .number % 65536)) (twoBytes (a .number / 65536)))
+    let second = c .before .before in
+    let known = second .before .before .before in
+    let first = known .before in
+    let a = first .before .before .before .args in
+    rw (second .put-word2 .ensures, first .put-word .ensures)
+    (sets-append (a .out .now) (a .at) (twoBytes (a .number % 65536)) (twoBytes (a .number / 65536)))
 
 pub put-long-spec : {M : Type 1} → statement M
 put-long-spec =

@@ -7,12 +7,16 @@ use native.Mathlib.Omega.{arith}
 use mathlib.Core.Path.{_≡_, refl}
 use lib.ListN.{drop-of-length-le, length, drop}
 use lib.Seq.{sets, drop-cons}
+use Rattle.limits.specs.Limits.{wordBytes}
 use Rattle.files.specs.Bytes.{inWords, twoBytes}
 use Rattle.files.proofs.put_words.Statement.{statement}
 use Rattle.files.proofs.put_words.Tie as tie
 
 abbrev Inv-loop : tie.InvT-loop
-Inv-loop numbers at out₀ i₀ out i = (length out ≡ length out₀) × (i ≤ length numbers) × (sets out (at + 2 * i) (inWords (drop i numbers)) ≡ sets out₀ at (inWords numbers))
+Inv-loop numbers at out₀ i₀ out i =
+    (length out ≡ length out₀)
+    × (i ≤ length numbers)
+    × (sets out (at + wordBytes * i) (inWords (drop i numbers)) ≡ sets out₀ at (inWords numbers))
 
 abbrev μ-loop : tie.MeasureT-loop
 μ-loop numbers at out₀ i₀ out i = length numbers - i
@@ -46,12 +50,14 @@ loop-less c = search needs
 loop-again : tie.Need-loop-again Inv-loop μ-loop
 unfolding inWords twoBytes
 loop-again c =
-    let at = c .before .before .before .before .before .before in
+    let put = c .before .before in
+    let known = put .before .before in
+    let at = known .before .before in
     let a = at .before .before .before .args in
     let i = at .loop .i in
-    let ns = a .numbers .now in
-    let next : a .at + 2 * (i + 1) ≡ suc (suc (a .at + 2 * i)) = omega arith in
-    (omega arith, omega arith, rw (c .before .before .put-word .ensures, next, add-one i) (rw (drop-cons ns i 0 (omega arith)) at (at .loop .inv .2)))
+    let next : a .at + wordBytes * (i + 1) ≡ suc (suc (a .at + wordBytes * i)) = omega arith in
+    let rest = rw (drop-cons (a .numbers .now) i 0 (omega arith)) at (at .loop .inv .2) in
+    (omega arith, omega arith, rw (put .put-word .ensures, next, add-one i) rest)
 
 same-length : tie.Need-same-length Inv-loop μ-loop
 same-length c = search needs

@@ -1,25 +1,29 @@
 -- `files::read` meets its contract. Assumes nothing.
 use borrow.Author.Needs.{needs}
 use mathlib.Core.Path.{sym, _∙_}
+use Rattle.files.proofs.Layouts.{counts-usable}
 use Rattle.files.proofs.read.Statement.{statement}
 use Rattle.files.proofs.read.Tie as tie
 
 admit-read-requires : tie.Need-admit-read-requires
-admit-read-requires c κs = search needs
+admit-read-requires c κs = counts-usable
 
 enum-known-checked : tie.Need-enum-known-checked
 enum-known-checked c = search needs
 
 returns : tie.Need-returns
 returns c =
-    let e = sym (c .before .before .before .admit-read .ensures) ∙ c .before .checked .given .1 in
+    let told = c .before in
+    let e = sym (told .before .before .admit-read .ensures) ∙ told .checked .given .1 in
     record { answer = rw e; samples-out = rw e; terms-out = rw e }
 
 enum-told : tie.Need-enum-told
 enum-told c = search needs
 
 fill-slices-requires : tie.Need-fill-slices-requires
-fill-slices-requires c κs = sym (c .before .before .before .before .admit-read .ensures) ∙ c .before .before .enum-told .given .1
+fill-slices-requires c κs =
+    let told = c .before .before in
+    sym (told .before .before .admit-read .ensures) ∙ told .enum-told .given .1
 
 same-length : tie.Need-same-length
 same-length c = search needs

@@ -8,7 +8,7 @@ use native.Mathlib.Omega.{arith}
 use lib.ListN.{getD}
 use Rattle.theory.specs.Sets.{within}
 use Rattle.theory.specs.Forms.{containsEarlier}
-use Rattle.theory.proofs.Lists.{some-at, some-none}
+use Rattle.theory.proofs.Lists.{any-below-at, any-below-none}
 use Rattle.forms.proofs.contains_earlier.Statement.{statement}
 use Rattle.forms.proofs.contains_earlier.Tie as tie
 
@@ -39,8 +39,9 @@ is-within-requires c κs = search needs
 returns : tie.Need-returns Inv-loop μ-loop
 unfolding containsEarlier
 returns c =
-    let at = c .before .before .before .before in
-    sym (some-at _ _ (at .loop .j) (search needs) (at .loop .inv .1) (sym (c .before .is-within .ensures) ∙ c .if1 .taken))
+    let asked = c .before in
+    let at = asked .before .before .before in
+    sym (any-below-at _ _ (at .loop .j) (search needs) (at .loop .inv .1) (sym (asked .is-within .ensures) ∙ c .if1 .taken))
 
 add-j : tie.Need-add-j Inv-loop μ-loop
 add-j c = search needs
@@ -50,12 +51,13 @@ loop-less c = search needs
 
 loop-again : tie.Need-loop-again Inv-loop μ-loop
 loop-again c =
-    let at = c .before .before .before .before in
-    (search needs, below-more _ _ (at .loop .inv .1) (sym (c .before .is-within .ensures) ∙ c .if1 .left))
+    let asked = c .before in
+    let at = asked .before .before .before in
+    (search needs, below-more _ _ (at .loop .inv .1) (sym (asked .is-within .ensures) ∙ c .if1 .left))
 
 returns-2 : tie.Need-returns-2 Inv-loop μ-loop
 unfolding containsEarlier
-returns-2 c = sym (some-none _ _ (λ k l. c .before .loop .inv .1 k (omega arith)))
+returns-2 c = sym (any-below-none _ _ (λ k l. c .before .loop .inv .1 k (omega arith)))
 
 pub contains-earlier-spec : {M : Type 1} → statement M
 contains-earlier-spec =

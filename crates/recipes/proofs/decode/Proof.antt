@@ -1,9 +1,10 @@
--- `decode` meets its contract: each arm's range is the definition's test on the code.
+-- `decode` meets its contract: each arm's range is some rows of the table.
 -- Assumes nothing.
-use borrow.Author.Needs.{needs}
-use borrow.Author.Tests.{ne-eqb, le-leb, lt-leb}
 use native.Mathlib.Omega.{arith}
+use mathlib.Core.Path.{sym}
 use Rattle.recipes.specs.Steps.{decodedOf}
+use Rattle.recipes.proofs.Decodes.{codes-1-4, codes-7-8, codes-over}
+use borrow.Author.Needs.{needs}
 use Rattle.recipes.proofs.decode.Statement.{statement}
 use Rattle.recipes.proofs.decode.Tie as tie
 
@@ -56,25 +57,23 @@ unfolding decodedOf
 returns-3 c = rw (c .before .before .match .keys3) (cc)
 
 returns-4 : tie.Need-returns-4
-unfolding decodedOf
 returns-4 c =
-    let m = c .before .before .before .before in
-    let code = m .before .args .code in
-    rw (ne-eqb code 0 (m .match .rest .0 .0 .1), le-leb code 4 (omega arith)) (cc)
+    let alone = c .before .before in
+    let s = alone .before .before .before in
+    cc (codes-1-4 (s .args .place) (s .args .rank) (s .args .set) (s .args .code) (omega arith) (omega arith))
 
 returns-5 : tie.Need-returns-5
-unfolding decodedOf
 returns-5 c =
-    let m = c .before .before .before .before .before in
-    let code = m .before .args .code in
-    rw (ne-eqb code 0 (m .match .rest .0 .0 .1), lt-leb code 4 (omega arith), ne-eqb code 5 (m .match .rest .0 .1), ne-eqb code 6 (m .match .rest .1), le-leb code 8 (omega arith)) (cc)
+    let none = c .before .before in
+    let arm = none .before .before in
+    let s = arm .before .before in
+    let no = arm .before .match .rest in
+    cc (codes-7-8 (s .args .place) (s .args .rank) (s .args .set) (s .args .code) (omega arith) (no .0 .1) (no .1) (omega arith))
 
 returns-6 : tie.Need-returns-6
-unfolding decodedOf
 returns-6 c =
-    let m = c .before .before in
-    let code = m .before .args .code in
-    rw (ne-eqb code 0 (m .match .rest .0 .0 .1), lt-leb code 4 (omega arith), ne-eqb code 5 (m .match .rest .0 .1), ne-eqb code 6 (m .match .rest .1), lt-leb code 8 (omega arith))
+    let s = c .before .before .before in
+    sym (codes-over (s .args .place) (s .args .rank) (s .args .set) (s .args .code) (omega arith))
 
 pub decode-spec : {M : Type 1} → statement M
 decode-spec =

@@ -2,49 +2,51 @@
 -- Assumes nothing.
 use borrow.Author.Needs.{needs}
 use native.Mathlib.Omega.{arith}
-use mathlib.Core.Path.{_∙_, ap, ap₂}
-use lib.IntN.{ℤ, negℤ}
-use Rattle.recipes.specs.Reaches.{moved, dilatedReach}
-use Rattle.theory.proofs.Signs.{read-back, read-as}
+use mathlib.Core.Path.{_∙_, ap}
+use lib.IntN.{negℤ}
+use Rattle.theory.proofs.Signs.{mag-neg, neg-fits, neg-read}
+use Rattle.recipes.specs.Parts.{dilatedReach}
+use Rattle.recipes.proofs.Reaches.{moved-by}
 use Rattle.recipes.proofs.dilate_reach.Statement.{statement}
 use Rattle.recipes.proofs.dilate_reach.Tie as tie
-
-greatest-offset-requires : tie.Need-greatest-offset-requires
-greatest-offset-requires c κs = search needs
-
-opposite-requires : tie.Need-opposite-requires
-opposite-requires c κs = rw (read-back (c .greatest-offset .result) (c .greatest-offset .ok)) (omega arith)
 
 least-offset-requires : tie.Need-least-offset-requires
 least-offset-requires c κs = search needs
 
-opposite-requires-2 : tie.Need-opposite-requires-2
-opposite-requires-2 c κs = rw (read-back (c .least-offset .result) (c .least-offset .ok)) (omega arith)
+greatest-offset-requires : tie.Need-greatest-offset-requires
+greatest-offset-requires c κs = search needs
+
+sub-move-ends : tie.Need-sub-move-ends
+sub-move-ends c = neg-fits (c .greatest-offset .result) (omega arith)
+
+sub-move-ends-2 : tie.Need-sub-move-ends-2
+sub-move-ends-2 c = neg-fits (c .before .least-offset .result) (omega arith)
 
 move-ends-requires : tie.Need-move-ends-requires
 move-ends-requires c κs =
-    let o = c .before .before .opposite in
-    rw (read-back (o .result) (o .ok), read-back (c .opposite2 .result) (c .opposite2 .ok)) (c .before .before .before .before .pre .2, omega arith, omega arith)
+    let m = c .before .least-offset in
+    let M = c .greatest-offset in
+    rw (neg-read (M .result) (omega (arith, M .ensures)), neg-read (m .result) (omega (arith, m .ensures)))
+    (c .before .before .pre, omega (arith, M .ensures, mag-neg (M .result)), omega (arith, m .ensures, mag-neg (m .result)))
 
 returns : tie.Need-returns
 unfolding dilatedReach
 returns c =
-    let n = c .before in
-    let m = n .before in
-    let N = m .before in
-    let M = N .before in
+    let found = c .before .before in
+    let m = found .least-offset in
+    let M = c .before .greatest-offset in
     c .move-ends .ensures
-    ∙ ap₂ (λ (a b : ℤ). moved a b (M .before .args .reach))
-    (read-as (N .opposite .result) (N .opposite .ok) (N .opposite .ensures .0 ∙ ap negℤ (read-as (M .greatest-offset .result) (M .greatest-offset .ok) (M .greatest-offset .ensures .0))))
-    (read-as (n .opposite2 .result) (n .opposite2 .ok) (n .opposite2 .ensures .0 ∙ ap negℤ (read-as (m .least-offset .result) (m .least-offset .ok) (m .least-offset .ensures .0))))
+    ∙ moved-by (found .before .args .reach)
+    (neg-read (M .result) (omega (arith, M .ensures)) ∙ ap negℤ (M .ensures .0))
+    (neg-read (m .result) (omega (arith, m .ensures)) ∙ ap negℤ (m .ensures .0))
 
 pub dilate-reach-spec : {M : Type 1} → statement M
 dilate-reach-spec =
     tie.close
     (tie.spec
-    greatest-offset-requires
-    opposite-requires
     least-offset-requires
-    opposite-requires-2
+    greatest-offset-requires
+    sub-move-ends
+    sub-move-ends-2
     move-ends-requires
     returns)

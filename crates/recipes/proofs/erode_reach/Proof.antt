@@ -2,10 +2,10 @@
 -- Assumes nothing.
 use borrow.Author.Needs.{needs}
 use native.Mathlib.Omega.{arith}
-use mathlib.Core.Path.{_∙_, ap₂}
-use lib.IntN.{ℤ}
-use Rattle.recipes.specs.Reaches.{moved, erodedReach}
+use mathlib.Core.Path.{_∙_}
 use Rattle.theory.proofs.Signs.{read-back, read-as}
+use Rattle.recipes.specs.Parts.{erodedReach}
+use Rattle.recipes.proofs.Reaches.{moved-by}
 use Rattle.recipes.proofs.erode_reach.Statement.{statement}
 use Rattle.recipes.proofs.erode_reach.Tie as tie
 
@@ -19,14 +19,17 @@ move-ends-requires : tie.Need-move-ends-requires
 move-ends-requires c κs =
     let m = c .before .least-offset in
     let M = c .greatest-offset in
-    rw (read-back (m .result) (m .ok), read-back (M .result) (M .ok)) (c .before .before .pre .2, omega arith, omega arith)
+    rw (read-back (m .result) (m .ok), read-back (M .result) (M .ok))
+    (c .before .before .pre, omega (arith, m .ensures), omega (arith, M .ensures))
 
 returns : tie.Need-returns
 unfolding erodedReach
 returns c =
     let m = c .before .before .least-offset in
     let M = c .before .greatest-offset in
-    c .move-ends .ensures ∙ ap₂ (λ (a b : ℤ). moved a b (c .before .before .before .args .reach)) (read-as (m .result) (m .ok) (m .ensures .0)) (read-as (M .result) (M .ok) (M .ensures .0))
+    c .move-ends .ensures
+    ∙ moved-by (c .before .before .before .args .reach)
+    (read-as (m .result) (m .ok) (m .ensures .0)) (read-as (M .result) (M .ok) (M .ensures .0))
 
 pub erode-reach-spec : {M : Type 1} → statement M
 erode-reach-spec =

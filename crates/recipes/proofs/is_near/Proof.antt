@@ -1,14 +1,16 @@
--- `is_near` meets its contract: the window's ends are -4 and 4.
+-- `is_near` meets its contract: the number that is tested is read back as it is.
 -- Assumes nothing.
 use borrow.Author.Needs.{needs}
-use Rattle.theory.specs.Signals.{row, nine}
-use Rattle.recipes.specs.Reaches.{stays}
+use Rattle.recipes.specs.Judge.{isNear}
 use Rattle.recipes.proofs.is_near.Statement.{statement}
 use Rattle.recipes.proofs.is_near.Tie as tie
 
+sub-result : tie.Need-sub-result
+sub-result c = search needs
+
 returns : tie.Need-returns
-unfolding stays nine row
+unfolding isNear
 returns c = search needs
 
 pub is-near-spec : {M : Type 1} → statement M
-is-near-spec = tie.close (tie.spec returns)
+is-near-spec = tie.close (tie.spec sub-result returns)

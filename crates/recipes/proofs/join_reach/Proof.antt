@@ -2,10 +2,16 @@
 -- Assumes nothing.
 use borrow.Author.Needs.{needs}
 use native.Mathlib.Omega.{arith}
-use mathlib.Core.Path.{_∙_, ap₂}
+use mathlib.Core.Path.{_≡_, _∙_, ap₂}
+use Prim.Native.Nat.{_≤_}
+use lib.IntN.{ℤ}
+use lib.Signed.{mag}
+use mir.Syntax.{w32}
+use mir.Val.{toZ, ofZ}
+use Rattle.limits.specs.Limits.{reach}
 use Rattle.theory.specs.Orders.{smaller, larger, ints}
-use Rattle.recipes.specs.Reaches.{joinedReach}
 use Rattle.theory.proofs.Signs.{read-back}
+use Rattle.recipes.specs.Machine.{bothReach}
 use Rattle.recipes.proofs.Reaches.{reach-by}
 use Rattle.recipes.proofs.join_reach.Statement.{statement}
 use Rattle.recipes.proofs.join_reach.Tie as tie
@@ -17,16 +23,18 @@ larger-requires : tie.Need-larger-requires
 larger-requires c κs = search needs
 
 returns : tie.Need-returns
-unfolding joinedReach
+unfolding bothReach
 returns c =
-    let m = c .before .before .before .smaller in
+    let after-smaller = c .before .before .before in
+    let s = after-smaller .before .before .before in
+    let m = after-smaller .smaller in
     let M = c .larger in
-    let s = c .before .before .before .before .before .before in
     let q = s .args .q in
     let r = s .args .r in
+    let read : (z : ℤ) → mag z ≤ reach → toZ w32 (ofZ w32 z) ≡ z = λ z h. read-back z (omega arith) in
     reach-by
-    (read-back (m .result) (m .ok) ∙ m .ensures ∙ ap₂ (smaller ints) (read-back (q .lo) (omega (arith, s .pre))) (read-back (r .lo) (omega (arith, s .pre))))
-    (read-back (M .result) (M .ok) ∙ M .ensures ∙ ap₂ (larger ints) (read-back (q .hi) (omega (arith, s .pre))) (read-back (r .hi) (omega (arith, s .pre))))
+    (read-back (m .result) (m .ok) ∙ m .ensures ∙ ap₂ (smaller ints) (read (q .lo) (s .pre .0 .0)) (read (r .lo) (s .pre .1 .0)))
+    (read-back (M .result) (M .ok) ∙ M .ensures ∙ ap₂ (larger ints) (read (q .hi) (s .pre .0 .1)) (read (r .hi) (s .pre .1 .1)))
 
 pub join-reach-spec : {M : Type 1} → statement M
 join-reach-spec = tie.close (tie.spec smaller-requires larger-requires returns)

@@ -1,8 +1,6 @@
--- `reach_after` meets its contract: each arm is a row of the column, and a decoded step's set is one of 1 to 511.
+-- `reach_after` meets its contract: each arm is a row of the column.
 -- Assumes nothing.
 use borrow.Author.Needs.{needs}
-use mathlib.Core.Path.{subst}
-use Rattle.recipes.specs.Steps.{Sane}
 use Rattle.recipes.proofs.reach_after.Statement.{statement}
 use Rattle.recipes.proofs.reach_after.Tie as tie
 
@@ -13,37 +11,37 @@ enum-known-step : tie.Need-enum-known-step
 enum-known-step c = search needs
 
 erode-reach-requires : tie.Need-erode-reach-requires
-erode-reach-requires c κs = let p = c .before .before .before .pre in let s = subst Sane (c .before .step .given .1) (p .0) in (s .0, s .1, p .1)
+erode-reach-requires c κs = search needs
 
 enum-known-step-2 : tie.Need-enum-known-step-2
 enum-known-step-2 c = search needs
 
 dilate-reach-requires : tie.Need-dilate-reach-requires
-dilate-reach-requires c κs = let p = c .before .before .before .pre in let s = subst Sane (c .before .step2 .given .1) (p .0) in (s .0, s .1, p .1)
+dilate-reach-requires c κs = search needs
 
 enum-known-step-3 : tie.Need-enum-known-step-3
 enum-known-step-3 c = search needs
 
 open-reach-requires : tie.Need-open-reach-requires
-open-reach-requires c κs = let p = c .before .before .before .pre in let s = subst Sane (c .before .step3 .given .1) (p .0) in (s .0, s .1, p .1)
+open-reach-requires c κs = search needs
 
 enum-known-step-4 : tie.Need-enum-known-step-4
 enum-known-step-4 c = search needs
 
 open-reach-requires-2 : tie.Need-open-reach-requires-2
-open-reach-requires-2 c κs = let p = c .before .before .before .pre in let s = subst Sane (c .before .step4 .given .1) (p .0) in (s .0, s .1, p .1)
+open-reach-requires-2 c κs = search needs
 
 enum-known-step-5 : tie.Need-enum-known-step-5
 enum-known-step-5 c = search needs
 
 erode-reach-requires-2 : tie.Need-erode-reach-requires-2
-erode-reach-requires-2 c κs = let p = c .before .before .before .pre in let s = subst Sane (c .before .step5 .given .1) (p .0) in (s .0, s .1, p .1)
+erode-reach-requires-2 c κs = search needs
 
 enum-known-step-6 : tie.Need-enum-known-step-6
 enum-known-step-6 c = search needs
 
 erode-reach-requires-3 : tie.Need-erode-reach-requires-3
-erode-reach-requires-3 c κs = let p = c .before .before .before .pre in let s = subst Sane (c .before .step6 .given .1) (p .0) in (s .0, s .1, p .1)
+erode-reach-requires-3 c κs = search needs
 
 enum-told-2 : tie.Need-enum-told-2
 enum-told-2 c = search needs

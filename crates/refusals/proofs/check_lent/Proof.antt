@@ -1,6 +1,6 @@
 -- `refusals::check_lent` meets its contract. Assumes nothing.
 use borrow.Author.Needs.{needs}
-use Rattle.refusals.specs.Limits.{lentChecked}
+use Rattle.refusals.specs.Shared.{lentChecked}
 use Rattle.refusals.proofs.check_lent.Statement.{statement}
 use Rattle.refusals.proofs.check_lent.Tie as tie
 

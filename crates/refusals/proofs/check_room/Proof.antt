@@ -1,6 +1,6 @@
 -- `refusals::check_room` meets its contract. Assumes nothing.
 use borrow.Author.Needs.{needs}
-use Rattle.refusals.specs.Limits.{roomChecked}
+use Rattle.refusals.specs.Shared.{roomChecked}
 use Rattle.refusals.proofs.check_room.Statement.{statement}
 use Rattle.refusals.proofs.check_room.Tie as tie
 

@@ -1,6 +1,6 @@
 -- `refusals::check_scan` meets its contract. Assumes nothing.
 use borrow.Author.Needs.{needs}
-use Rattle.refusals.specs.Limits.{scanChecked}
+use Rattle.refusals.specs.Shared.{scanChecked}
 use Rattle.refusals.proofs.check_scan.Statement.{statement}
 use Rattle.refusals.proofs.check_scan.Tie as tie
 

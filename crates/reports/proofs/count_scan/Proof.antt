@@ -4,7 +4,7 @@ use native.Mathlib.Omega.{arith}
 use mathlib.Core.Path.{sym}
 use lib.ListN.{length}
 use lib.Seq.{length-take-le}
-use Rattle.reports.proofs.Counted.{run-most}
+use Rattle.reports.proofs.Counted.{run-short}
 use Rattle.reports.proofs.count_scan.Statement.{statement}
 use Rattle.reports.proofs.count_scan.Tie as tie
 
@@ -12,16 +12,18 @@ room-requires : tie.Need-room-requires
 room-requires c κs = search needs
 
 array-borrow-prefix-cleaned : tie.Need-array-borrow-prefix-cleaned
-array-borrow-prefix-cleaned c = omega (arith, run-most _ _ _ (c .before .before .before .pre))
+array-borrow-prefix-cleaned c = omega (arith, run-short _ _ _ (c .before .before .before .pre))
 
-slice-aggregate-clean-and-tally : tie.Need-slice-aggregate-clean-and-tally
-slice-aggregate-clean-and-tally c = sym (length-take-le _ _ (omega (arith, run-most _ _ _ (c .before .before .before .before .pre))))
+slice-aggregate-clean-and-count : tie.Need-slice-aggregate-clean-and-count
+slice-aggregate-clean-and-count c =
+    let known = c .before .before in
+    sym (length-take-le _ _ (omega (arith, run-short _ _ _ (known .before .before .pre))))
 
-clean-and-tally-requires : tie.Need-clean-and-tally-requires
-clean-and-tally-requires c κs =
-    let start = c .before .before .before .before in
-    let n = length (start .args .scan .now) in
-    rw (length-take-le n (c .before .room .result) (omega (arith, run-most _ _ _ (start .pre)))) (start .pre)
+clean-and-count-requires : tie.Need-clean-and-count-requires
+clean-and-count-requires c κs =
+    let made = c .before in
+    let start = made .before .before .before in
+    rw (length-take-le (length (start .args .scan .now)) (made .room .result) (omega (arith, run-short _ _ _ (start .pre)))) (start .pre)
 
 returns : tie.Need-returns
 returns c = search needs
@@ -32,6 +34,6 @@ count-scan-spec =
     (tie.spec
     room-requires
     array-borrow-prefix-cleaned
-    slice-aggregate-clean-and-tally
-    clean-and-tally-requires
+    slice-aggregate-clean-and-count
+    clean-and-count-requires
     returns)

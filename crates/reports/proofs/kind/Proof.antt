@@ -7,12 +7,12 @@ use Rattle.reports.proofs.Residues.{change-difference}
 use Rattle.reports.proofs.kind.Statement.{statement}
 use Rattle.reports.proofs.kind.Tie as tie
 
-one-if-requires : tie.Need-one-if-requires
-one-if-requires c κs = search needs
+bit-requires : tie.Need-bit-requires
+bit-requires c κs = search needs
 
 returns : tie.Need-returns
 unfolding kindOf
-returns c = c .one-if .ensures .0 ∙ ap bit (sym (change-difference (c .before .args .raw) (c .before .args .cleaned)))
+returns c = c .bit .ensures .0 ∙ ap bit (sym (change-difference (c .before .args .raw) (c .before .args .cleaned)))
 
 pub kind-spec : {M : Type 1} → statement M
-kind-spec = tie.close (tie.spec one-if-requires returns)
+kind-spec = tie.close (tie.spec bit-requires returns)

@@ -24,8 +24,10 @@ or-else-requires-2 c κs = search needs
 returns : tie.Need-returns
 unfolding recipeRunChecked
 returns c =
-    c .or-else2 .ensures
-    ∙ ap₂ orElse (c .before .before .before .before .judge .ensures) (c .before .or-else .ensures ∙ ap₂ orElse (c .before .before .before .check-scan .ensures) (c .before .before .check-lent .ensures))
+    let lent = c .before .before in
+    let counted = lent .before in
+    let rest = c .before .or-else .ensures ∙ ap₂ orElse (counted .check-scan .ensures) (lent .check-lent .ensures) in
+    c .or-else2 .ensures ∙ ap₂ orElse (counted .before .judge .ensures) rest
 
 pub admit-spec : {M : Type 1} → statement M
 admit-spec =

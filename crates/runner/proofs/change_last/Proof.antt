@@ -1,57 +1,48 @@
 -- `runner::change_last` lends the last row alone, so the rows below stay. Assumes nothing.
 use borrow.Author.Needs.{needs}
 use native.Mathlib.Omega.{arith}
-use native.Mathlib.Nat.{mul-le-mul-right}
-use Prim.Native.Nat.{_-_, _*_}
-use mathlib.Core.Path.{_≡_, refl}
-use lib.ListN.{length}
-use Rattle.runner.proofs.Parts.{mid-length}
-use Rattle.runner.proofs.Stacks.{rows-replaced}
+use Rattle.runner.proofs.Stacks.{changed-last}
 use Rattle.runner.proofs.change_last.Statement.{statement}
 use Rattle.runner.proofs.change_last.Tie as tie
 
-mul-end : tie.Need-mul-end
-mul-end c =
-    let a = c .before .before .args in
-    let low = mul-le-mul-right (a .m) (c .before .before .pre .1) in
-    let all = mul-le-mul-right (a .m) (c .before .before .pre .0 .few) in
-    omega arith
+sub-row-start : tie.Need-sub-row-start
+sub-row-start c = search needs
 
-sub-start : tie.Need-sub-start
-sub-start c =
-    let a = c .before .before .args in
-    let low = mul-le-mul-right (a .m) (c .before .before .pre .1) in
-    let all = mul-le-mul-right (a .m) (c .before .before .pre .0 .few) in
-    omega arith
+row-start-requires : tie.Need-row-start-requires
+row-start-requires c κs = search needs
 
-mul-apply : tie.Need-mul-apply
-mul-apply c =
-    let a = c .before .before .args in
-    let low = mul-le-mul-right (a .m) (c .before .before .pre .1) in
-    let all = mul-le-mul-right (a .m) (c .before .before .pre .0 .few) in
-    omega arith
+add-end : tie.Need-add-end
+add-end c = search needs
 
-sub-apply : tie.Need-sub-apply
-sub-apply c = search needs
+mul-wide : tie.Need-mul-wide
+mul-wide c = search needs
 
-part-apply-start : tie.Need-part-apply-start
-part-apply-start c = search needs
+add-wide : tie.Need-add-wide
+add-wide c = search needs
 
-part-apply-end : tie.Need-part-apply-end
-part-apply-end c =
-    let a = c .before .before .args in
-    let low = mul-le-mul-right (a .m) (c .before .before .pre .1) in
-    let all = mul-le-mul-right (a .m) (c .before .before .pre .0 .few) in
-    search needs
+mul-change-row : tie.Need-mul-change-row
+mul-change-row c = search needs
 
-apply-requires : tie.Need-apply-requires
-apply-requires c κs =
-    let a = c .before .before .before .before .args in
-    let low = mul-le-mul-right (a .m) (c .before .before .before .before .pre .1) in
-    let all = mul-le-mul-right (a .m) (c .before .before .before .before .pre .0 .few) in
-    let n = a .h * a .m in
-    let sized = mid-length (n - a .m) (n - (n - a .m)) (a .held .now) (omega arith) in
-    (c .before .before .before .before .pre .2, omega arith, omega arith, omega arith)
+sub-change-row : tie.Need-sub-change-row
+sub-change-row c = search needs
+
+part-change-row-start : tie.Need-part-change-row-start
+part-change-row-start c = search needs
+
+part-change-row-end : tie.Need-part-change-row-end
+part-change-row-end c = search needs
+
+sub-change-row-2 : tie.Need-sub-change-row-2
+sub-change-row-2 c = search needs
+
+part-change-row-start-2 : tie.Need-part-change-row-start-2
+part-change-row-start-2 c = search needs
+
+part-change-row-end-2 : tie.Need-part-change-row-end-2
+part-change-row-end-2 c = search needs
+
+change-row-requires : tie.Need-change-row-requires
+change-row-requires c κs = search needs
 
 same-length : tie.Need-same-length
 same-length c = search needs
@@ -61,25 +52,31 @@ same-length-2 c = search needs
 
 returns : tie.Need-returns
 returns c =
-    let a = c .before .before .before .before .before .before .before .before .before .args in
-    let low = mul-le-mul-right (a .m) (c .before .before .before .before .before .before .before .before .before .pre .1) in
-    let all = mul-le-mul-right (a .m) (c .before .before .before .before .before .before .before .before .before .pre .0 .few) in
-    let n = a .h * a .m in
-    let sized = mid-length (n - a .m) (n - (n - a .m)) (a .held .now) (omega arith) in
-    let full : length (c .before .before .before .before .apply .last .0) ≡ a .m = omega arith in
-    (c .before .before .before .before .before .before .before .before .before .pre .0 .few, rows-replaced (a .by) (a .m) (a .h) (n - a .m) (n - (n - a .m)) (a .held .now) (c .before .before .before .before .apply .last .0) (c .before .before .before .before .before .before .before .before .before .pre .1) (omega arith) refl refl full (c .before .before .before .before .apply .ensures))
+    let back = c .before .before in
+    let changed = back .before .before in
+    let placed = changed .before .before .before in
+    let start = placed .before .before .before in
+    let a = start .args in
+    changed-last (start .pre .0) (a .by) (a .left) (a .right) (placed .row-start .result) (changed .change-row .last .0) _ _
+    (start .pre .2) (placed .row-start .ensures .0) (start .pre .3) (omega arith) (omega arith) (changed .change-row .ensures .0)
 
 pub change-last-spec : {M : Type 1} → statement M
 change-last-spec =
     tie.close
     (tie.spec
-    mul-end
-    sub-start
-    mul-apply
-    sub-apply
-    part-apply-start
-    part-apply-end
-    apply-requires
+    sub-row-start
+    row-start-requires
+    add-end
+    mul-wide
+    add-wide
+    mul-change-row
+    sub-change-row
+    part-change-row-start
+    part-change-row-end
+    sub-change-row-2
+    part-change-row-start-2
+    part-change-row-end-2
+    change-row-requires
     same-length
     same-length-2
     returns)

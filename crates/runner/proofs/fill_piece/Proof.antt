@@ -1,33 +1,33 @@
 -- `runner::fill_piece` runs the recipe on a piece of the scan that has all that the piece's values depend on. Assumes nothing.
 use borrow.Author.Needs.{needs}
 use native.Mathlib.Omega.{arith}
-use Rattle.runner.proofs.Pieces.{piece-ran}
+use Rattle.runner.proofs.Pieces.{piece-run}
 use Rattle.runner.proofs.fill_piece.Statement.{statement}
 use Rattle.runner.proofs.fill_piece.Tie as tie
 
-four-before-requires : tie.Need-four-before-requires
-four-before-requires c κs = search needs
+reach-before-requires : tie.Need-reach-before-requires
+reach-before-requires c κs = search needs
 
-so-far-requires : tie.Need-so-far-requires
-so-far-requires c κs = search needs
+further-on-requires : tie.Need-further-on-requires
+further-on-requires c κs = search needs
 
-so-far-requires-2 : tie.Need-so-far-requires-2
-so-far-requires-2 c κs = search needs
+further-on-requires-2 : tie.Need-further-on-requires-2
+further-on-requires-2 c κs = search needs
 
-mul-walk : tie.Need-mul-walk
-mul-walk c = search needs
+mul-perform-all : tie.Need-mul-perform-all
+mul-perform-all c = search needs
 
-sub-walk : tie.Need-sub-walk
-sub-walk c = search needs
+sub-perform-all : tie.Need-sub-perform-all
+sub-perform-all c = search needs
 
-part-walk-start : tie.Need-part-walk-start
-part-walk-start c = search needs
+part-perform-all-start : tie.Need-part-perform-all-start
+part-perform-all-start c = search needs
 
-part-walk-end : tie.Need-part-walk-end
-part-walk-end c = search needs
+part-perform-all-end : tie.Need-part-perform-all-end
+part-perform-all-end c = search needs
 
-walk-requires : tie.Need-walk-requires
-walk-requires c κs = search needs
+perform-all-requires : tie.Need-perform-all-requires
+perform-all-requires c κs = search needs
 
 mul-copy : tie.Need-mul-copy
 mul-copy c = search needs
@@ -53,31 +53,35 @@ copy-requires c κs = search needs
 same-length : tie.Need-same-length
 same-length c = search needs
 
-same-length-2 : tie.Need-same-length-2
-same-length-2 c = search needs
-
-same-length-3 : tie.Need-same-length-3
-same-length-3 c = search needs
-
 returns : tie.Need-returns
 returns c =
-    let a = c .before .before .before .before .before .before .before .before .before .before .before .before .before .before .before .before .before .before .before .before .before .args in
-    let p = c .before .before .before .before .before .before .before .before .before .before .before .before .before .before .before .before .before .before .before .before .before .pre in
-    piece-ran (a .recipe .now) (a .scan .now) (a .out .now) (c .before .before .copy .last .0) _ (a .at) (c .before .before .before .before .before .before .before .before .before .before .before .before .before .before .so-far .result) (c .before .before .before .before .before .before .before .before .before .before .before .before .before .before .before .four-before .result) (c .before .before .before .before .before .before .before .before .before .before .before .before .before .so-far2 .result)
-    (p .0) (c .before .before .before .before .before .before .before .before .before .before .before .before .before .before .before .four-before .ensures) (c .before .before .before .before .before .before .before .before .before .before .before .before .before .so-far2 .ensures) (omega arith) (omega arith) (p .2) (c .before .before .before .before .before .before .before .before .before .walk .ensures) (c .before .before .copy .ensures)
+    let copied = c .before .before in
+    let lent = copied .before in
+    let performed = lent .before .before .before in
+    let read = performed .before in
+    let stops = read .before .before .before in
+    let goes = stops .before in
+    let starts = goes .before in
+    let known = starts .before in
+    let start = known .before .before .before in
+    let a = start .args in
+    piece-run (a .left) (a .right) (a .recipe .now) (a .scan .now) _ (a .out .now) (copied .copy .last .0)
+    (a .at) (goes .further-on .result) (starts .reach-before .result) (stops .further-on2 .result)
+    (start .pre .0) (omega arith) (omega arith) (starts .reach-before .ensures) (stops .further-on2 .ensures)
+    (performed .perform-all .ensures) (start .pre .1) (search needs) (copied .copy .ensures)
 
 pub fill-piece-spec : {M : Type 1} → statement M
 fill-piece-spec =
     tie.close
     (tie.spec
-    four-before-requires
-    so-far-requires
-    so-far-requires-2
-    mul-walk
-    sub-walk
-    part-walk-start
-    part-walk-end
-    walk-requires
+    reach-before-requires
+    further-on-requires
+    further-on-requires-2
+    mul-perform-all
+    sub-perform-all
+    part-perform-all-start
+    part-perform-all-end
+    perform-all-requires
     mul-copy
     sub-copy
     part-copy-start
@@ -86,6 +90,4 @@ fill-piece-spec =
     sub-copy-2
     copy-requires
     same-length
-    same-length-2
-    same-length-3
     returns)

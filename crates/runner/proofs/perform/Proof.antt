@@ -14,31 +14,42 @@ enum-told c = search needs
 
 push-requires : tie.Need-push-requires
 push-requires c κs =
-    let p = c .before .before .before .before .before .before .pre in
-    (refl, p .1, subst (λ (w : Work). Ready w (c .before .before .before .before .before .before .args .h)) (c .before .enum-told .given .1) (p .2), p .0 .deep)
+    let told = c .before in
+    let known = told .before .before in
+    let start = known .before .before .before in
+    let ready = subst (λ (w : Work). Ready w (start .args .h)) (told .enum-told .given .1) (start .pre .2) in
+    (start .pre .0, refl, ready)
 
 enum-known-work : tie.Need-enum-known-work
 enum-known-work c = search needs
 
 change-last-requires : tie.Need-change-last-requires
 change-last-requires c κs =
-    let p = c .before .before .before .before .before .before .before .before .pre in
-    let ready = subst (λ (w : Work). Ready w (c .before .before .before .before .before .before .before .before .args .h)) (c .before .before .before .work .given .1) (p .2) in
-    (p .0, ready .0, ready .1)
+    let told = c .before .before .before in
+    let known = told .before .before in
+    let start = known .before .before .before in
+    let ready = subst (λ (w : Work). Ready w (start .args .h)) (told .work .given .1) (start .pre .2) in
+    (start .pre .0, start .pre .1, ready .0, ready .1)
 
 enum-known-work-2 : tie.Need-enum-known-work-2
 enum-known-work-2 c = search needs
 
 join-requires : tie.Need-join-requires
 join-requires c κs =
-    let p = c .before .before .before .before .before .before .before .before .pre in
-    (p .0, subst (λ (w : Work). Ready w (c .before .before .before .before .before .before .before .before .args .h)) (c .before .before .before .work2 .given .1) (p .2))
+    let told = c .before .before .before in
+    let known = told .before .before in
+    let start = known .before .before .before in
+    let ready = subst (λ (w : Work). Ready w (start .args .h)) (told .work2 .given .1) (start .pre .2) in
+    (start .pre .0, start .pre .1, ready)
 
 same-length : tie.Need-same-length
 same-length c = search needs
 
 returns : tie.Need-returns
-returns c = (c .before .before .push .ensures .0, rw (c .before .before .before .before .enum-told .given .1) (c .before .before .push .ensures .1))
+returns c =
+    let pushed = c .before .before in
+    let told = pushed .before .before in
+    rw (told .enum-told .given .1) (pushed .push .ensures)
 
 same-length-2 : tie.Need-same-length-2
 same-length-2 c = search needs
@@ -47,7 +58,11 @@ same-length-3 : tie.Need-same-length-3
 same-length-3 c = search needs
 
 returns-2 : tie.Need-returns-2
-returns-2 c = (c .before .before .before .before .change-last .ensures .0, rw (c .before .before .before .before .before .before .before .before .work .given .1) (c .before .before .before .before .change-last .ensures .1))
+returns-2 c =
+    let back = c .before in
+    let changed = back .before .before .before in
+    let told = changed .before .before .before in
+    rw (told .before .work .given .1) (changed .change-last .ensures)
 
 same-length-4 : tie.Need-same-length-4
 same-length-4 c = search needs
@@ -56,7 +71,11 @@ same-length-5 : tie.Need-same-length-5
 same-length-5 c = search needs
 
 returns-3 : tie.Need-returns-3
-returns-3 c = (c .before .before .before .before .join .ensures .0, rw (c .before .before .before .before .before .before .before .before .work2 .given .1) (c .before .before .before .before .join .ensures .1))
+returns-3 c =
+    let back = c .before in
+    let joined = back .before .before .before in
+    let told = joined .before .before .before in
+    rw (told .before .work2 .given .1) (joined .join .ensures)
 
 pub perform-spec : {M : Type 1} → statement M
 perform-spec =

@@ -2,6 +2,7 @@
 use borrow.Author.Needs.{needs}
 use mathlib.Core.Path.{sym, _∙_}
 use lib.ListN.{length}
+use Rattle.theory.specs.Signals.{held}
 use Rattle.runner.proofs.Fine.{run-fine, run-written}
 use Rattle.runner.proofs.run.Statement.{statement}
 use Rattle.runner.proofs.run.Tie as tie
@@ -12,11 +13,18 @@ admit-requires c κs = search needs
 enum-told : tie.Need-enum-told
 enum-told c = search needs
 
+hold-ends-requires : tie.Need-hold-ends-requires
+hold-ends-requires c κs = search needs
+
 fill-requires : tie.Need-fill-requires
 fill-requires c κs =
-    let admitted = c .before .before .before in
-    let a = c .before .before .before .before .before .before .before .args in
-    run-fine (a .recipe .now) (a .scan .now) (length (a .out .now)) (sym (admitted .admit .ensures) ∙ c .before .enum-told .given .1)
+    let told = c .before .before in
+    let admitted = told .before .before in
+    let known = admitted .before .before in
+    let a = known .before .before .args in
+    let nothing = sym (admitted .admit .ensures) ∙ told .enum-told .given .1 in
+    let fine = run-fine (a .recipe .now) (a .scan .now) (length (a .out .now)) nothing in
+    (fine .0, fine .1)
 
 enum-known-refusal : tie.Need-enum-known-refusal
 enum-known-refusal c = search needs
@@ -26,9 +34,18 @@ same-length c = search needs
 
 returns : tie.Need-returns
 returns c =
-    let a = c .before .before .before .before .before .before .before .before .before .before .args in
-    let fine = sym (c .before .before .before .before .before .before .admit .ensures) ∙ c .before .before .before .before .enum-told .given .1 in
-    record { answer = rw fine; out = run-written (a .recipe .now) (a .scan .now) _ (a .out .now) fine (c .before .before .fill .ensures) }
+    let filled = c .before .before in
+    let beyond = filled .before .before in
+    let told = beyond .before in
+    let admitted = told .before .before in
+    let known = admitted .before .before in
+    let a = known .before .before .args in
+    let fine = sym (admitted .admit .ensures) ∙ told .enum-told .given .1 in
+    let ends = beyond .hold-ends .ensures in
+    record {
+      answer = rw fine;
+      out = run-written held (a .recipe .now) (a .scan .now) _ (a .out .now) _ _ fine (ends .0) (ends .1) (filled .fill .ensures);
+    }
 
 returns-2 : tie.Need-returns-2
 returns-2 c =
@@ -41,6 +58,7 @@ run-spec =
     (tie.spec
     admit-requires
     enum-told
+    hold-ends-requires
     fill-requires
     enum-known-refusal
     same-length

@@ -24,8 +24,12 @@ or-else-requires-2 c κs = search needs
 returns : tie.Need-returns
 unfolding runChecked
 returns c =
+    let later = c .before in
+    let lent = later .before in
+    let scan = lent .before in
     c .or-else2 .ensures
-    ∙ ap₂ orElse (c .before .before .before .before .check .ensures) (c .before .or-else .ensures ∙ ap₂ orElse (c .before .before .before .check-scan .ensures) (c .before .before .check-lent .ensures))
+    ∙ ap₂ orElse (scan .before .check .ensures)
+    (later .or-else .ensures ∙ ap₂ orElse (scan .check-scan .ensures) (lent .check-lent .ensures))
 
 pub admit-run-spec : {M : Type 1} → statement M
 admit-run-spec =

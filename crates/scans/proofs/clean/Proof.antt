@@ -1,10 +1,9 @@
 -- `scans::clean` meets its contract. Assumes nothing.
 use borrow.Author.Needs.{needs}
-use mathlib.Core.Path.{sym, _∙_}
-use lib.ListN.{length}
+use native.Mathlib.Omega.{arith}
 use Rattle.theory.specs.Signals.{cleaned}
-use Rattle.theory.proofs.Lists.{length-tab}
-use Rattle.scans.proofs.Fine.{run-fine, run-written}
+use Rattle.theory.proofs.Demands.{Samples}
+use Rattle.scans.proofs.Fine.{run-fine, run-gives, run-refuses}
 use Rattle.scans.proofs.clean.Statement.{statement}
 use Rattle.scans.proofs.clean.Tie as tie
 
@@ -14,11 +13,16 @@ admit-run-requires c κs = search needs
 enum-told : tie.Need-enum-told
 enum-told c = search needs
 
+hold-ends-requires : tie.Need-hold-ends-requires
+hold-ends-requires c κs = search needs
+
 fill-requires : tie.Need-fill-requires
 fill-requires c κs =
-    let admitted = c .before .before .before in
-    let a = admitted .before .before .before .before .args in
-    run-fine (a .terms .now) (a .scan .now) (length (a .out .now)) (sym (admitted .admit-run .ensures) ∙ c .before .enum-told .given .1)
+    let told = c .before .before in
+    let admitted = told .before .before in
+    let known = admitted .before .before in
+    let a = known .before .before .args in
+    run-fine (a .terms .now) (a .scan .now) (admitted .admit-run .ensures) (told .enum-told .given .1) .2
 
 enum-known-refusal : tie.Need-enum-known-refusal
 enum-known-refusal c = search needs
@@ -29,15 +33,23 @@ same-length c = search needs
 returns : tie.Need-returns
 unfolding cleaned
 returns c =
-    let admitted = c .before .before .before .before .before .before in
-    let a = admitted .before .before .before .before .args in
-    let fine = sym (admitted .admit-run .ensures) ∙ c .before .before .before .before .enum-told .given .1 in
-    record { answer = rw fine; out = c .before .before .fill .ensures ∙ run-written (a .terms .now) (a .scan .now) (a .out .now) fine (length-tab _ _) }
+    let filled = c .before .before in
+    let beyond = filled .before .before in
+    let told = beyond .before in
+    let admitted = told .before .before in
+    let known = admitted .before .before in
+    let a = known .before .before .args in
+    let small : Samples (a .scan .now) = λ k. omega (arith, known .shared-slice-known2 .given k) in
+    run-gives (a .terms .now) (a .scan .now) (a .out .now) (admitted .admit-run .ensures) (λ x v. v)
+    (told .enum-told .given .1) (beyond .hold-ends .ensures) small (filled .fill .ensures)
 
 returns-2 : tie.Need-returns-2
 returns-2 c =
-    let no = sym (c .before .before .before .admit-run .ensures) ∙ c .before .refusal .given .1 in
-    record { answer = rw no; out = rw no }
+    let told = c .before in
+    let admitted = told .before .before in
+    let known = admitted .before .before in
+    let a = known .before .before .args in
+    run-refuses (a .terms .now) (a .scan .now) (a .out .now) (admitted .admit-run .ensures) (told .refusal .given .1)
 
 pub clean-spec : {M : Type 1} → statement M
 clean-spec =
@@ -45,6 +57,7 @@ clean-spec =
     (tie.spec
     admit-run-requires
     enum-told
+    hold-ends-requires
     fill-requires
     enum-known-refusal
     same-length

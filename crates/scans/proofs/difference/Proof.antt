@@ -14,10 +14,18 @@ cast-result-2 : tie.Need-cast-result-2
 cast-result-2 c = search needs
 
 sub-result : tie.Need-sub-result
-sub-result c = rw (toZ-pos w32 {n = c .args .raw} (omega arith), toZ-pos w32 {n = c .args .cleaned} (omega arith)) (minus-fits (c .args .raw) (c .args .cleaned) (omega arith) (omega arith))
+sub-result c =
+    let raw = c .args .raw in
+    let cleaned = c .args .cleaned in
+    rw (toZ-pos w32 {n = raw} (omega arith), toZ-pos w32 {n = cleaned} (omega arith))
+    (minus-fits raw cleaned (omega arith) (omega arith))
 
 returns : tie.Need-returns
-returns c = rw (toZ-pos w32 {n = c .args .raw} (omega arith), toZ-pos w32 {n = c .args .cleaned} (omega arith)) (toZ-ofZ (minus-fits (c .args .raw) (c .args .cleaned) (omega arith) (omega arith)))
+returns c =
+    let raw = c .args .raw in
+    let cleaned = c .args .cleaned in
+    rw (toZ-pos w32 {n = raw} (omega arith), toZ-pos w32 {n = cleaned} (omega arith))
+    (toZ-ofZ (minus-fits raw cleaned (omega arith) (omega arith)))
 
 pub difference-spec : {M : Type 1} → statement M
 difference-spec = tie.close (tie.spec cast-result cast-result-2 sub-result returns)

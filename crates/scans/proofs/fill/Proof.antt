@@ -1,20 +1,19 @@
--- `scans::fill` writes the filter at each sample, one store a turn. Assumes nothing.
+-- `scans::fill` writes what the form gives around each sample, one store a turn. Assumes nothing.
 use borrow.Author.Needs.{needs}
-use Prim.Native.Nat.{ℕ, _-_}
+use Prim.Native.Nat.{_-_}
 use native.Mathlib.Omega.{arith}
-use mathlib.Core.Path.{ap, _∙_}
 use lib.ListN.{length}
-use Rattle.theory.specs.Lists.{tab}
-use Rattle.theory.specs.Signals.{filteredAt, cleaned}
-use Rattle.theory.proofs.Fills.{Filled, fill-none, fill-more, fill-all}
+use Rattle.theory.proofs.Fills.{Filled, fill-none, fill-more}
+use Rattle.scans.specs.Around.{valueAround}
+use Rattle.scans.proofs.Fills.{fill-whole}
 use Rattle.scans.proofs.fill.Statement.{statement}
 use Rattle.scans.proofs.fill.Tie as tie
 
 abbrev Inv-loop : tie.InvT-loop
-Inv-loop terms scan out₀ x₀ out x = Filled (filteredAt terms scan) out₀ out x
+Inv-loop terms scan ends out₀ x₀ out x = Filled (valueAround (ends .left) (ends .right) terms scan) out₀ out x
 
 abbrev μ-loop : tie.MeasureT-loop
-μ-loop terms scan out₀ x₀ out x = length out₀ - x
+μ-loop terms scan ends out₀ x₀ out x = length out₀ - x
 
 loop-holds : tie.Need-loop-holds Inv-loop μ-loop
 loop-holds c = fill-none _ _
@@ -35,18 +34,16 @@ loop-less : tie.Need-loop-less Inv-loop μ-loop
 loop-less c = search needs
 
 loop-again : tie.Need-loop-again Inv-loop μ-loop
-loop-again c =
-    fill-more (c .before .before .loop .inv) (omega arith) (c .filter-at .ensures)
+loop-again c = fill-more (c .before .before .loop .inv) (omega arith) (c .filter-at .ensures)
 
 same-length : tie.Need-same-length Inv-loop μ-loop
 same-length c = search needs
 
 returns : tie.Need-returns Inv-loop μ-loop
-unfolding cleaned
 returns c =
     let at = c .before in
-    let start = at .before .before .before .before in
-    fill-all (at .loop .inv) (omega arith) ∙ ap (λ (n : ℕ). tab n (filteredAt (start .args .terms .now) (start .args .scan .now))) (start .pre .1)
+    let known = at .before .before in
+    fill-whole (at .loop .inv) (omega arith) (known .before .before .pre)
 
 pub fill-spec : {M : Type 1} → statement M
 fill-spec =

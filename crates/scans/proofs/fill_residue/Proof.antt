@@ -1,24 +1,20 @@
--- `scans::fill_residue` writes the residue at each sample, one store a turn. Assumes nothing.
+-- `scans::fill_residue` writes raw minus what the form gives around each sample, one store a turn. Assumes nothing.
 use borrow.Author.Needs.{needs}
-use Prim.Native.Nat.{ℕ, _-_}
+use Prim.Native.Nat.{_-_}
 use native.Mathlib.Omega.{arith}
-use mathlib.Core.Path.{ap, _∙_}
-use lib.ListN.{length, getD}
-use lib.IntN.{pos, _-ℤ_}
-use mir.Syntax.{w32}
-use mir.Facts.{toZ-ofZ}
-use Rattle.theory.specs.Lists.{tab}
-use Rattle.theory.specs.Signals.{residueAt}
-use Rattle.scans.specs.Run.{residues}
-use Rattle.theory.proofs.Fills.{Filled, fill-none, fill-more, fill-all}
+use lib.ListN.{length}
+use Rattle.theory.proofs.Fills.{Filled, fill-none, fill-more}
+use Rattle.theory.proofs.Signs.{read-as}
+use Rattle.scans.specs.Around.{restAround}
+use Rattle.scans.proofs.Fills.{fill-whole}
 use Rattle.scans.proofs.fill_residue.Statement.{statement}
 use Rattle.scans.proofs.fill_residue.Tie as tie
 
 abbrev Inv-loop : tie.InvT-loop
-Inv-loop terms scan out₀ x₀ out x = Filled (residueAt terms scan) out₀ out x
+Inv-loop terms scan ends out₀ x₀ out x = Filled (restAround (ends .left) (ends .right) terms scan) out₀ out x
 
 abbrev μ-loop : tie.MeasureT-loop
-μ-loop terms scan out₀ x₀ out x = length scan - x
+μ-loop terms scan ends out₀ x₀ out x = length scan - x
 
 loop-holds : tie.Need-loop-holds Inv-loop μ-loop
 loop-holds c = fill-none _ _
@@ -35,8 +31,8 @@ filter-at-requires c κs = search needs
 difference-requires : tie.Need-difference-requires Inv-loop μ-loop
 difference-requires c κs = search needs
 
-mul-t11 : tie.Need-mul-t11 Inv-loop μ-loop
-mul-t11 c = search needs
+mul-t12 : tie.Need-mul-t12 Inv-loop μ-loop
+mul-t12 c = search needs
 
 slice-set-from-out : tie.Need-slice-set-from-out Inv-loop μ-loop
 slice-set-from-out c = search needs
@@ -48,22 +44,21 @@ loop-less : tie.Need-loop-less Inv-loop μ-loop
 loop-less c = search needs
 
 loop-again : tie.Need-loop-again Inv-loop μ-loop
-unfolding residueAt
 loop-again c =
-    let at = c .before .before .before .before in
+    let filtered = c .before in
+    let at = filtered .before .before .before in
     let a = at .before .before .before .args in
-    fill-more (at .loop .inv) (omega arith)
-    (toZ-ofZ {w = w32} {z = c .difference .result} (record { sfits = c .difference .ok }) ∙ c .difference .ensures ∙ ap (λ (v : ℕ). pos (getD (a .scan .now) (at .loop .x) 0) -ℤ pos v) (c .before .filter-at .ensures))
+    let here = restAround (a .ends .left) (a .ends .right) (a .terms .now) (a .scan .now) (at .loop .x) in
+    let rest = rw (filtered .filter-at .ensures) at (c .difference .ensures) in
+    fill-more (at .loop .inv) (omega arith) (read-as (c .difference .result) {v = here} (c .difference .ok) rest)
 
 same-length : tie.Need-same-length Inv-loop μ-loop
 same-length c = search needs
 
 returns : tie.Need-returns Inv-loop μ-loop
-unfolding residues
 returns c =
     let at = c .before in
-    let start = at .before .before .before in
-    fill-all (at .loop .inv) (omega arith) ∙ ap (λ (n : ℕ). tab n (residueAt (start .args .terms .now) (start .args .scan .now))) (start .pre .1)
+    fill-whole (at .loop .inv) (omega arith) (at .before .before .before .pre)
 
 pub fill-residue-spec : {M : Type 1} → statement M
 fill-residue-spec =
@@ -76,7 +71,7 @@ fill-residue-spec =
     shared-slice-read-difference
     filter-at-requires
     difference-requires
-    mul-t11
+    mul-t12
     slice-set-from-out
     add-x
     loop-less

@@ -2,7 +2,7 @@
 use borrow.Author.Needs.{needs}
 use mathlib.Core.Path.{_∙_, ap₂}
 use Rattle.refusals.specs.Refusals.{orElse}
-use Rattle.tables.specs.Tables.{formTabledChecked}
+use Rattle.tables.specs.Tables.{formToTableChecked}
 use Rattle.tables.proofs.admit_form.Statement.{statement}
 use Rattle.tables.proofs.admit_form.Tie as tie
 
@@ -16,7 +16,7 @@ or-else-requires : tie.Need-or-else-requires
 or-else-requires c κs = search needs
 
 returns : tie.Need-returns
-unfolding formTabledChecked
+unfolding formToTableChecked
 returns c = c .or-else .ensures ∙ ap₂ orElse (c .before .before .check .ensures) (c .before .check-bytes .ensures)
 
 pub admit-form-spec : {M : Type 1} → statement M

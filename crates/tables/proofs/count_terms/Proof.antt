@@ -4,6 +4,7 @@ use Prim.Native.Nat.{_-_, _≤_}
 use native.Mathlib.Omega.{arith}
 use mathlib.Core.Path.{_≡_, ap, _∙_}
 use lib.ListN.{length}
+use Rattle.limits.specs.Limits.{patterns}
 use Rattle.theory.specs.Lists.{bit}
 use Rattle.theory.specs.Forms.{minimal, formOf}
 use Rattle.theory.specs.Tables.{tableAt}
@@ -13,10 +14,10 @@ use Rattle.tables.proofs.count_terms.Statement.{statement}
 use Rattle.tables.proofs.count_terms.Tie as tie
 
 abbrev Inv-loop : tie.InvT-loop
-Inv-loop table count₀ v₀ count v = (v ≤ 512) × (count ≤ v) × (count ≡ length (kept (minimal (tableAt table)) v))
+Inv-loop table count₀ v₀ count v = (v ≤ patterns) × (count ≤ v) × (count ≡ length (kept (minimal (tableAt table)) v))
 
 abbrev μ-loop : tie.MeasureT-loop
-μ-loop table count₀ v₀ count v = 512 - v
+μ-loop table count₀ v₀ count v = patterns - v
 
 loop-holds : tie.Need-loop-holds Inv-loop μ-loop
 loop-holds c = (search needs, search needs, simp kept-none)
@@ -24,8 +25,8 @@ loop-holds c = (search needs, search needs, simp kept-none)
 is-term-requires : tie.Need-is-term-requires Inv-loop μ-loop
 is-term-requires c κs = search needs
 
-one-requires : tie.Need-one-requires Inv-loop μ-loop
-one-requires c κs = search needs
+bit-requires : tie.Need-bit-requires Inv-loop μ-loop
+bit-requires c κs = search needs
 
 add-count : tie.Need-add-count Inv-loop μ-loop
 add-count c = search needs
@@ -40,14 +41,14 @@ loop-again : tie.Need-loop-again Inv-loop μ-loop
 loop-again c =
     let at = c .before .before .before in
     let p = minimal (tableAt (at .before .before .args .table .now)) in
-    let one = c .one .ensures .0 ∙ ap bit (c .before .is-term .ensures) in
+    let one = c .bit .ensures .0 ∙ ap bit (c .before .is-term .ensures) in
     (omega arith, omega arith, omega (arith, kept-length p (at .loop .v)))
 
 returns : tie.Need-returns Inv-loop μ-loop
 unfolding formIn formOf kept
 returns c =
     let at = c .before in
-    let full : at .loop .v ≡ 512 = omega arith in
+    let full : at .loop .v ≡ patterns = omega arith in
     at .loop .inv .2 ∙ rw full
 
 pub count-terms-spec : {M : Type 1} → statement M
@@ -58,7 +59,7 @@ count-terms-spec =
     μ-loop
     loop-holds
     is-term-requires
-    one-requires
+    bit-requires
     add-count
     add-v
     loop-less

@@ -1,27 +1,23 @@
 -- `tables::fill_table` meets its contract: the first j bytes are written. Assumes nothing.
 use borrow.Author.Needs.{needs}
-use Prim.Native.Nat.{ℕ, _+_, _*_, _-_}
+use Prim.Native.Nat.{ℕ, _-_}
 use native.Mathlib.Omega.{arith}
 use mathlib.Core.Path.{ap, _∙_}
-use mathlib.Core.List.{List}
+use Rattle.limits.specs.Limits.{tableBytes}
 use Rattle.theory.specs.Lists.{tab}
-use Rattle.theory.specs.Sets.{gather}
 use Rattle.theory.specs.Forms.{holds}
 use Rattle.theory.specs.Tables.{tableOf}
 use Rattle.theory.proofs.Fills.{Filled, fill-none, fill-more, fill-all}
 use Rattle.tables.specs.Tables.{tableIn}
+use Rattle.tables.proofs.Bytes.{byteOf}
 use Rattle.tables.proofs.fill_table.Statement.{statement}
 use Rattle.tables.proofs.fill_table.Tie as tie
 
--- byte k of the table
-abbrev byte : List ℕ → ℕ → ℕ
-byte terms k = gather 8 (λ i. holds terms (8 * k + i))
-
 abbrev Inv-loop : tie.InvT-loop
-Inv-loop terms table₀ j₀ table j = Filled (byte terms) table₀ table j
+Inv-loop terms table₀ j₀ table j = Filled (byteOf (holds terms)) table₀ table j
 
 abbrev μ-loop : tie.MeasureT-loop
-μ-loop terms table₀ j₀ table j = 64 - j
+μ-loop terms table₀ j₀ table j = tableBytes - j
 
 loop-holds : tie.Need-loop-holds Inv-loop μ-loop
 loop-holds c = fill-none _ _
@@ -49,7 +45,7 @@ unfolding tableIn tableOf
 returns c =
     let at = c .before in
     let s = at .before .before .before in
-    fill-all (at .loop .inv) (omega arith) ∙ ap (λ (n : ℕ). tab n (byte (s .args .terms .now))) (s .pre)
+    fill-all (at .loop .inv) (omega arith) ∙ ap (λ (n : ℕ). tab n (byteOf (holds (s .args .terms .now)))) (s .pre)
 
 pub fill-table-spec : {M : Type 1} → statement M
 fill-table-spec =

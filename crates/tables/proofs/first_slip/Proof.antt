@@ -5,16 +5,17 @@ use Prim.Native.Nat.{ℕ, _-_, _≤_, _<_}
 use native.Mathlib.Omega.{arith}
 use mathlib.Core.Path.{_≡_, sym, _∙_}
 use mathlib.Core.Bool.{false}
+use Rattle.limits.specs.Limits.{width, patterns}
 use Rattle.theory.specs.Tables.{tableAt, slips}
 use Rattle.theory.proofs.Lists.{first-at, first-none}
 use Rattle.tables.proofs.first_slip.Statement.{statement}
 use Rattle.tables.proofs.first_slip.Tie as tie
 
 abbrev Inv-loop : tie.InvT-loop
-Inv-loop table v₀ v = (v ≤ 512) × ((k : ℕ) → k < v → slips 9 (tableAt table) k ≡ false)
+Inv-loop table v₀ v = (v ≤ patterns) × ((k : ℕ) → k < v → slips width (tableAt table) k ≡ false)
 
 abbrev μ-loop : tie.MeasureT-loop
-μ-loop table v₀ v = 512 - v
+μ-loop table v₀ v = patterns - v
 
 loop-holds : tie.Need-loop-holds Inv-loop μ-loop
 loop-holds c = (search needs, below-none _)
@@ -25,7 +26,7 @@ slips-on-requires c κs = search needs
 returns : tie.Need-returns Inv-loop μ-loop
 returns c =
     let at = c .before .before .before in
-    sym (first-at _ 512 (at .loop .v) (omega arith) (at .loop .inv .1) (sym (c .before .slips-on .ensures) ∙ c .if1 .taken))
+    sym (first-at _ patterns (at .loop .v) (omega arith) (at .loop .inv .1) (sym (c .before .slips-on .ensures) ∙ c .if1 .taken))
 
 add-v : tie.Need-add-v Inv-loop μ-loop
 add-v c = search needs
@@ -39,7 +40,7 @@ loop-again c =
     (omega arith, below-more _ _ (at .loop .inv .1) (sym (c .before .slips-on .ensures) ∙ c .if1 .left))
 
 returns-2 : tie.Need-returns-2 Inv-loop μ-loop
-returns-2 c = sym (first-none _ 512 (λ k l. c .before .loop .inv .1 k (omega arith)))
+returns-2 c = sym (first-none _ patterns (λ k l. c .before .loop .inv .1 k (omega arith)))
 
 pub first-slip-spec : {M : Type 1} → statement M
 first-slip-spec =

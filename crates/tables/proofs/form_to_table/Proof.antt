@@ -2,7 +2,7 @@
 use borrow.Author.Needs.{needs}
 use mathlib.Core.Path.{sym, _∙_}
 use lib.ListN.{length}
-use Rattle.tables.proofs.Accepted.{fine-tabled, table-fills}
+use Rattle.tables.proofs.Accepted.{gives-refused, fine-form-to-table, table-fills}
 use Rattle.tables.proofs.form_to_table.Statement.{statement}
 use Rattle.tables.proofs.form_to_table.Tie as tie
 
@@ -13,29 +13,32 @@ enum-known-checked : tie.Need-enum-known-checked
 enum-known-checked c = search needs
 
 returns : tie.Need-returns
-returns c =
-    let told = sym (c .before .before .before .admit-form .ensures) ∙ c .before .checked .given .1 in
-    record { answer = rw told; out = rw told }
+returns c = gives-refused (sym (c .before .before .before .admit-form .ensures) ∙ c .before .checked .given .1)
 
 enum-told : tie.Need-enum-told
 enum-told c = search needs
 
 fill-table-requires : tie.Need-fill-table-requires
 fill-table-requires c κs =
-    let a = c .before .before .before .before .before .before .args in
-    fine-tabled (a .terms .now) (length (a .table .now)) (sym (c .before .before .before .admit-form .ensures) ∙ c .before .enum-told .given .1) .whole
+    let admitted = c .before .before .before in
+    let a = admitted .before .before .before .args in
+    let told = sym (admitted .admit-form .ensures) ∙ c .before .enum-told .given .1 in
+    fine-form-to-table (a .terms .now) (length (a .table .now)) told .whole
 
 same-length : tie.Need-same-length
 same-length c = search needs
 
 returns-2 : tie.Need-returns-2
 returns-2 c =
-    let fine = c .before .before .before .before in
-    let a = fine .before .before .before .before .before .args in
-    let told = sym (fine .before .before .admit-form .ensures) ∙ fine .enum-told .given .1 in
+    let filled = c .before .before in
+    let fine = filled .before .before in
+    let admitted = fine .before .before in
+    let a = admitted .before .before .before .args in
+    let told = sym (admitted .admit-form .ensures) ∙ fine .enum-told .given .1 in
+    let whole = fine-form-to-table (a .terms .now) (length (a .table .now)) told .whole in
     record {
       answer = rw told;
-      out = rw told (c .before .before .fill-table .ensures ∙ sym (table-fills (a .terms .now) (a .table .now) (fine-tabled (a .terms .now) (length (a .table .now)) told .whole)));
+      out = rw told (filled .fill-table .ensures ∙ sym (table-fills (a .terms .now) (a .table .now) whole));
     }
 
 pub form-to-table-spec : {M : Type 1} → statement M

@@ -33,8 +33,9 @@ is-within-requires c κs = search needs
 returns : tie.Need-returns Inv-loop μ-loop
 unfolding holds
 returns c =
-    let at = c .before .before .before .before in
-    sym (index-by 0 _ _ (at .loop .i) (search needs) (sym (c .before .is-within .ensures) ∙ c .if1 .taken))
+    let looked = c .before in
+    let at = looked .before .before .before in
+    sym (index-by 0 _ _ (at .loop .i) (search needs) (sym (looked .is-within .ensures) ∙ c .if1 .taken))
 
 add-i : tie.Need-add-i Inv-loop μ-loop
 add-i c = search needs
@@ -44,8 +45,9 @@ loop-less c = search needs
 
 loop-again : tie.Need-loop-again Inv-loop μ-loop
 loop-again c =
-    let at = c .before .before .before .before in
-    (search needs, below-more _ _ (at .loop .inv .1) (sym (c .before .is-within .ensures) ∙ c .if1 .left))
+    let looked = c .before in
+    let at = looked .before .before .before in
+    (search needs, below-more _ _ (at .loop .inv .1) (sym (looked .is-within .ensures) ∙ c .if1 .left))
 
 returns-2 : tie.Need-returns-2 Inv-loop μ-loop
 unfolding holds

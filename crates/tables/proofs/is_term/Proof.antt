@@ -5,20 +5,31 @@ use borrow.Author.Tests.{not-true, not-false}
 use Prim.Native.Nat.{ℕ, _-_, _≤_, _<_}
 use native.Mathlib.Omega.{arith}
 use mathlib.Core.Path.{_≡_, sym, _∙_}
-use mathlib.Core.Bool.{true, false}
+use mathlib.Core.Bool.{Bool, true, false, not}
+use mathlib.Core.List.{List}
+use Rattle.limits.specs.Limits.{width, patterns}
+use Rattle.theory.specs.Lists.{any, from, anyBelow}
 use Rattle.theory.specs.Forms.{minimal}
-use Rattle.theory.specs.Tables.{tableAt}
+use Rattle.theory.specs.Tables.{tableAt, slips}
 use Rattle.theory.proofs.Searches.{below-by, below-no}
 use Rattle.theory.proofs.Minimal.{keepsWithout, minimalByOne, one-less}
 use Rattle.theory.proofs.Tables.{fine-positive}
 use Rattle.tables.proofs.is_term.Statement.{statement}
 use Rattle.tables.proofs.is_term.Tie as tie
 
+-- a pattern with value 1 in a table that never slips is a term where no one position less keeps the value
+minimal-if : (tb : List ℕ) (v : ℕ) {b : Bool} → anyBelow (slips width (tableAt tb)) patterns ≡ false → v < patterns → tableAt tb v ≡ true
+    → any (keepsWithout (tableAt tb) v) (from 0 width) ≡ b → not b ≡ minimal (tableAt tb) v
+unfolding minimalByOne
+minimal-if tb v steady l one e =
+    let f = tableAt tb in
+    rw (e, one) at (one-less width f (fine-positive width f steady) v l)
+
 abbrev Inv-loop : tie.InvT-loop
-Inv-loop table v i₀ i = (i ≤ 9) × (tableAt table v ≡ true) × ((k : ℕ) → k < i → keepsWithout (tableAt table) v k ≡ false)
+Inv-loop table v i₀ i = (i ≤ width) × (tableAt table v ≡ true) × ((k : ℕ) → k < i → keepsWithout (tableAt table) v k ≡ false)
 
 abbrev μ-loop : tie.MeasureT-loop
-μ-loop table v i₀ i = 9 - i
+μ-loop table v i₀ i = width - i
 
 value-on-requires : tie.Need-value-on-requires Inv-loop μ-loop
 value-on-requires c κs = search needs
@@ -34,13 +45,13 @@ keeps-without-requires : tie.Need-keeps-without-requires Inv-loop μ-loop
 keeps-without-requires c κs = search needs
 
 returns-2 : tie.Need-returns-2 Inv-loop μ-loop
-unfolding minimalByOne keepsWithout
+unfolding keepsWithout
 returns-2 c =
     let at = c .before .before .before in
-    let s = at .before .before .before .before in
-    let f = tableAt (s .args .table .now) in
-    let kept = below-by (keepsWithout f (s .args .v)) 9 (at .loop .i) (omega arith) (sym (c .before .keeps-without .ensures) ∙ c .if2 .taken) in
-    rw (kept, at .loop .inv .1) at (one-less 9 f (fine-positive 9 f (s .pre .2)) (s .args .v) (s .pre .1))
+    let read = at .before .before in
+    let s = read .before .before in
+    let less = sym (c .before .keeps-without .ensures) ∙ c .if2 .taken in
+    minimal-if _ _ (s .pre .2) (s .pre .1) (at .loop .inv .1) (below-by _ width (at .loop .i) (omega arith) less)
 
 add-i : tie.Need-add-i Inv-loop μ-loop
 add-i c = search needs
@@ -55,13 +66,11 @@ loop-again c =
     (omega arith, at .loop .inv .1, below-more _ _ (at .loop .inv .2) (sym (c .before .keeps-without .ensures) ∙ c .if2 .left))
 
 returns-3 : tie.Need-returns-3 Inv-loop μ-loop
-unfolding minimalByOne
 returns-3 c =
     let at = c .before in
-    let s = at .before .before .before .before in
-    let f = tableAt (s .args .table .now) in
-    let none = below-no (keepsWithout f (s .args .v)) 9 (λ k l. at .loop .inv .2 k (omega arith)) in
-    rw (none, at .loop .inv .1) at (one-less 9 f (fine-positive 9 f (s .pre .2)) (s .args .v) (s .pre .1))
+    let read = at .before .before in
+    let s = read .before .before in
+    minimal-if _ _ (s .pre .2) (s .pre .1) (at .loop .inv .1) (below-no _ width (λ k l. at .loop .inv .2 k (omega arith)))
 
 pub is-term-spec : {M : Type 1} → statement M
 is-term-spec =

@@ -6,17 +6,18 @@ use Prim.Native.Nat.{ℕ, _≤_, _<_, _-_}
 use native.Mathlib.Omega.{arith}
 use mathlib.Core.Path.{_≡_, sym, _∙_}
 use mathlib.Core.Bool.{true, false, not}
-use Rattle.theory.specs.Sets.{with-place}
+use Rattle.limits.specs.Limits.{width}
+use Rattle.theory.specs.Sets.{with-position}
 use Rattle.theory.specs.Tables.{tableAt, slips}
 use Rattle.theory.proofs.Searches.{below-by, below-no}
 use Rattle.tables.proofs.slips_on.Statement.{statement}
 use Rattle.tables.proofs.slips_on.Tie as tie
 
 abbrev Inv-loop : tie.InvT-loop
-Inv-loop table v i₀ i = (i ≤ 9) × (tableAt table v ≡ true) × ((k : ℕ) → k < i → not (tableAt table (with-place v k)) ≡ false)
+Inv-loop table v i₀ i = (i ≤ width) × (tableAt table v ≡ true) × ((k : ℕ) → k < i → not (tableAt table (with-position v k)) ≡ false)
 
 abbrev μ-loop : tie.MeasureT-loop
-μ-loop table v i₀ i = 9 - i
+μ-loop table v i₀ i = width - i
 
 value-on-requires : tie.Need-value-on-requires Inv-loop μ-loop
 value-on-requires c κs = search needs
@@ -35,7 +36,7 @@ returns-2 : tie.Need-returns-2 Inv-loop μ-loop
 unfolding slips
 returns-2 c =
     let at = c .before .before .before in
-    rw (at .loop .inv .1) (sym (below-by _ 9 (at .loop .i) (omega arith) (sym (c .before .loses-with .ensures) ∙ c .if2 .taken)))
+    rw (at .loop .inv .1) (sym (below-by _ width (at .loop .i) (omega arith) (sym (c .before .loses-with .ensures) ∙ c .if2 .taken)))
 
 add-i : tie.Need-add-i Inv-loop μ-loop
 add-i c = search needs
@@ -52,7 +53,7 @@ returns-3 : tie.Need-returns-3 Inv-loop μ-loop
 unfolding slips
 returns-3 c =
     let at = c .before in
-    rw (at .loop .inv .1) (sym (below-no _ 9 (λ k l. at .loop .inv .2 k (omega arith))))
+    rw (at .loop .inv .1) (sym (below-no _ width (λ k l. at .loop .inv .2 k (omega arith))))
 
 pub slips-on-spec : {M : Type 1} → statement M
 slips-on-spec =

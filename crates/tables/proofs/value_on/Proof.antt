@@ -1,22 +1,24 @@
--- `tables::value_on` meets its contract: a shift reads the bit. Assumes nothing.
+-- `tables::value_on` meets its contract. Assumes nothing.
 use borrow.Author.Needs.{needs}
+use Prim.Native.Nat.{_/_}
+use native.Mathlib.Omega.{arith}
+use Rattle.limits.specs.Limits.{byteBits}
 use Rattle.theory.specs.Tables.{tableAt}
-use Rattle.theory.proofs.Places.{has-shift}
 use Rattle.tables.proofs.value_on.Statement.{statement}
 use Rattle.tables.proofs.value_on.Tie as tie
 
-shared-slice-read-result : tie.Need-shared-slice-read-result
-shared-slice-read-result c = search needs
+shared-slice-read-has : tie.Need-shared-slice-read-has
+shared-slice-read-has c = search needs
 
-cast-result : tie.Need-cast-result
-cast-result c = search needs
+cast-has : tie.Need-cast-has
+cast-has c = omega (arith, c .shared-slice-known2 .given (c .before .before .args .v / byteBits))
 
-shr-result : tie.Need-shr-result
-shr-result c = search needs
+has-requires : tie.Need-has-requires
+has-requires c κs = search needs
 
 returns : tie.Need-returns
 unfolding tableAt
-returns c = rw has-shift
+returns c = c .has .ensures
 
 pub value-on-spec : {M : Type 1} → statement M
-value-on-spec = tie.close (tie.spec shared-slice-read-result cast-result shr-result returns)
+value-on-spec = tie.close (tie.spec shared-slice-read-has cast-has has-requires returns)

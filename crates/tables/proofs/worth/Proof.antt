@@ -5,13 +5,14 @@ use Prim.Native.Nat.{ℕ, _*_, _%_, _^_, _≤_, _<_}
 use native.Mathlib.Nat.{one-mul, mod-eq-of-lt}
 use native.Mathlib.Omega.{arith}
 use lib.Pow.{pow-mono}
+use Rattle.limits.specs.Limits.{width, patterns}
 use Rattle.tables.proofs.worth.Statement.{statement}
 use Rattle.tables.proofs.worth.Tie as tie
 
 -- what a position is worth, as a shift gives it
-shifted-one : (i : ℕ) → i < 9 → (1 * 2 ^ i) % 2 ^ 64 ≡ 2 ^ i
+shifted-one : (i : ℕ) → i < width → (1 * 2 ^ i) % 2 ^ 64 ≡ 2 ^ i
 shifted-one i l =
-    let low : 2 ^ i ≤ 2 ^ 8 = pow-mono {j = 8} (omega arith) in
+    let low : 2 ^ i ≤ patterns = pow-mono {j = width} (omega arith) in
     ap (λ (n : ℕ). n % 2 ^ 64) (one-mul (2 ^ i)) ∙ mod-eq-of-lt (omega arith)
 
 shl-result : tie.Need-shl-result

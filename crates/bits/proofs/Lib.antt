@@ -1,0 +1,2 @@
+-- The laws of these leaves.
+pub mod Sets

@@ -1,0 +1,2 @@
+-- The numbers of document 01.
+pub mod Limits

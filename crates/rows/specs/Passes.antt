@@ -1,0 +1,62 @@
+-- What the private passes go by: the shifts at which a set is read in a row that is widened, and rows that fall at each index.
+use mathlib.Core.Path.{_≡_}
+use mathlib.Core.Bool.{Bool, true, cond}
+use mathlib.Core.List.{List, map}
+use Prim.Native.Nat.{ℕ, suc, _+_, _-_, _*_, _≤_, _<_}
+use lib.ListN.{length, getD, take}
+use Rattle.limits.specs.Limits.{width}
+use Rattle.theory.specs.Lists.{tab}
+use Rattle.theory.specs.Sets.{positions}
+use Rattle.theory.specs.Orders.{counts}
+use Rattle.theory.specs.Ranks.{Pick, insert, falling, pick}
+use Rattle.theory.specs.Signals.{window}
+use Rattle.rows.specs.Sizes.{opening}
+use Rattle.rows.specs.declared.Change.{Change}
+use Rattle.rows.specs.Rows.{isWider, widened}
+use Rattle.rows.specs.Changes.{isSet, lastRead, afterChange}
+
+-- ---- a row and a set
+
+-- a set of positions, and room for the row widened by an opening
+pub record Roomy (row room : List ℕ) (B : ℕ) : Type 0 where
+  pub wide : isWider opening row room ≡ true
+  pub set : isSet B ≡ true
+
+-- a row is changed, and the room has what was read last, widened
+pub record Applied (by : Change) (l r : ℕ) (row row′ room′ : List ℕ) : Type 0 where
+  pub changed : row′ ≡ afterChange by l r row
+  pub read : room′ ≡ widened opening l r (lastRead by l r row)
+
+-- the shift at which the column c is read where the column centre stands for offset 0: c further on, or mirrored, c further back
+unfoldable pub shiftOf : Bool → ℕ → ℕ → ℕ
+shiftOf mirrored centre c = cond mirrored (opening + centre - c) (opening + c - centre)
+
+-- the shifts at which a set is read
+unfoldable pub shiftsOf : Bool → ℕ → ℕ → List ℕ
+shiftsOf mirrored centre B = map (λ i. shiftOf mirrored centre (window .column i)) (positions width B)
+
+-- each of the first count shifts stays in the room, from each index of a row of n values
+pub record Reaching (n : ℕ) (room shifts : List ℕ) (count : ℕ) : Type 0 where
+  pub nonempty : 0 < count
+  pub few : count ≤ length shifts
+  pub wide : length room ≡ n + (opening + opening)
+  pub near : (t : ℕ) → t < count → getD shifts t 0 ≤ opening + opening
+
+-- at each of n indices, what a pick takes of the values of w that the shifts reach
+unfoldable pub around : Pick → List ℕ → ℕ → List ℕ → List ℕ
+around p cs n w = tab n (λ j. pick counts p 0 (λ c. getD w (j + c) 0) cs)
+
+-- ---- rows of m values one after the other in a list
+
+-- index j of the n rows from the r-th on
+unfoldable pub down : ℕ → ℕ → ℕ → List ℕ → ℕ → List ℕ
+down m r n l j = tab n (λ q. getD l ((r + q) * m + j) 0)
+
+-- at each index, x was put into the first n rows
+abbrev pub Inserted : ℕ → ℕ → List ℕ → List ℕ → List ℕ → Type 0
+Inserted m n old x new = (j : ℕ) → j < m → down m 0 (suc n) new j ≡ insert counts (getD x j 0) (down m 0 n old j)
+
+-- at each index, the first count rows have what the shifts reach, falling
+abbrev pub Sorted : ℕ → ℕ → List ℕ → List ℕ → List ℕ → Type 0
+Sorted m count shifts room rows =
+    (j : ℕ) → j < m → down m 0 count rows j ≡ falling counts (λ c. getD room (j + c) 0) (take count shifts)

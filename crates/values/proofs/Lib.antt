@@ -1,0 +1,2 @@
+-- The walks behind the value of a form.
+pub mod Counts

@@ -1,0 +1,3 @@
+-- The laws of positions and columns.
+pub mod Searches
+pub mod Columns

@@ -1,0 +1,2 @@
+-- What the contracts on positions and columns cite.
+pub mod Columns
