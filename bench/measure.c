@@ -1,7 +1,11 @@
 /* Times the library through its C interface beside plain C. Each line it prints is one row of the
    table, its fields apart by tabs: name, unit, ours, plain C ("-" where there is none). Notes begin
-   with "note". Every timed pair of calls is first seen to give the same answer. The scan is written
-   to the file that the first argument names, for the peers. */
+   with "note". Every timed pair of calls is first seen to give the same answer.
+
+   usage: measure FILE ROUNDS [RECIPE]
+
+   The scan is written to FILE, for the peers. A time is the best of so many rounds. The recipe that is
+   compiled is RECIPE, in hex, or the dearest of some drawn by chance; it is printed as "recipe". */
 #include "../hosts/c/stackfilter.h"
 #include "plain.h"
 #include <stdio.h>
@@ -10,9 +14,12 @@
 #include <time.h>
 
 #define SAMPLES SF_MOST_SAMPLES
-#define ROUNDS 100
+#define EVERY_OFFSET (SF_PATTERNS - 1) /* as a set */
+#define MIDDLE (1 << SF_REACH)         /* the set {0} */
+#define NEIGHBOURS ((1 << (SF_REACH + 1)) - 1) /* as many neighbouring offsets as stay near when opened by */
 #define ROUND_NS 2e6
 
+static int rounds;
 static uint16_t scan[SAMPLES], ours[SAMPLES], plains[SAMPLES];
 
 /* ---- inputs by chance, always the same */
@@ -38,9 +45,9 @@ static void make_scan(void) {
 typedef struct {
     uint16_t terms[SF_MOST_TERMS];
     size_t m;
-    uint8_t recipe[128];
+    uint8_t recipe[SF_LONGEST_RECIPE];
     size_t steps;
-    uint8_t file[2 * SAMPLES + 2 * SF_MOST_TERMS + SF_TRAILER_BYTES];
+    uint8_t file[SF_LONGEST_FILE];
     size_t file_bytes;
 } job;
 
@@ -65,7 +72,7 @@ static void time_best(call *one, call *other, job *j, double *best_one, double *
     double *best[] = {best_one, best_other};
     for (int c = 0; c < 2 && calls[c]; c++)
         *best[c] = time_once(calls[c], j, 1);
-    for (int round = 0; round < ROUNDS; round++)
+    for (int round = 0; round < rounds; round++)
         for (int c = 0; c < 2 && calls[c]; c++) {
             double ns = time_once(calls[c], j, 1 + (unsigned)(ROUND_NS / *best[c]));
             if (ns < *best[c])
@@ -88,9 +95,15 @@ static void demand(uint8_t number) {
 }
 
 static void clean(job *j) { demand(sf_clean(j->terms, j->m, scan, SAMPLES, ours, SAMPLES, &value)); }
-static void run(job *j) { demand(sf_run_recipe(j->recipe, 4 * j->steps, scan, SAMPLES, ours, SAMPLES, &value)); }
-static void compile(job *j) { demand(sf_compile(j->recipe, 4 * j->steps, j->terms, SF_MOST_TERMS, &value)); }
-static void count(job *j) { uint64_t five[5]; demand(sf_count(j->file, j->file_bytes, five, &value)); }
+static void count(job *j) { uint64_t counts[SF_COUNTS]; demand(sf_count(j->file, j->file_bytes, counts, &value)); }
+
+static void run(job *j) {
+    demand(sf_run_recipe(j->recipe, SF_STEP_BYTES * j->steps, scan, SAMPLES, ours, SAMPLES, &value));
+}
+
+static void compile(job *j) {
+    demand(sf_compile(j->recipe, SF_STEP_BYTES * j->steps, j->terms, SF_MOST_TERMS, &value));
+}
 
 static void read_file(job *j) {
     demand(sf_read(j->file, j->file_bytes, ours, SAMPLES, j->terms, SF_MOST_TERMS, &value, &terms_read));
@@ -103,7 +116,7 @@ static void run_plainly(job *j) { plain_run_recipe(j->recipe, j->steps, scan, SA
 /* ---- jobs */
 
 static void add_step(job *j, uint8_t code, uint8_t k, unsigned set) {
-    uint8_t *step = j->recipe + 4 * j->steps++;
+    uint8_t *step = j->recipe + SF_STEP_BYTES * j->steps++;
     step[0] = code;
     step[1] = k;
     step[2] = set & 255;
@@ -147,44 +160,50 @@ static void row_alone(const char *name, call *one, job j) {
 /* ---- the dearest recipe */
 
 static void bounds_of(unsigned set, int *least, int *most) {
-    for (*least = -4; !(set >> (*least + 4) & 1);)
+    for (*least = -SF_REACH; !(set >> (*least + SF_REACH) & 1);)
         ++*least;
-    for (*most = 4; !(set >> (*most + 4) & 1);)
+    for (*most = SF_REACH; !(set >> (*most + SF_REACH) & 1);)
         --*most;
 }
 
-/* Whether a step of code 1 to 6 keeps the reach in -4 to 4; it is then the new reach. */
+/* Whether a step from erode to median keeps the reach in its bounds; it is then the new reach. */
 static int moves_reach(uint8_t code, unsigned set, int *low, int *high) {
     int least, most;
     bounds_of(set, &least, &most);
     int down = code == SF_DILATE ? -most : code == SF_OPEN || code == SF_CLOSE ? least - most : least;
     int up = code == SF_DILATE ? -least : code == SF_OPEN || code == SF_CLOSE ? most - least : most;
-    if (*low + down < -4 || *high + up > 4)
+    if (*low + down < -SF_REACH || *high + up > SF_REACH)
         return 0;
     *low += down;
     *high += up;
     return 1;
 }
 
-/* A recipe of 32 steps that holds eight signals, whose sets are as large as chance and reach allow. */
+static unsigned large_set(void) {
+    unsigned set = below(SF_PATTERNS);
+    set |= below(SF_PATTERNS);
+    return set & (below(2) ? EVERY_OFFSET : NEIGHBOURS << below(SF_REACH + 1));
+}
+
+/* A recipe of the most steps that holds the most signals, whose sets are as large as chance and reach allow. */
 static job dear_recipe(void) {
     job j = {.steps = 0};
-    for (unsigned signal = 0; signal < 8; signal++) {
+    for (unsigned signal = 0; signal < SF_MOST_SIGNALS; signal++) {
         int low = 0, high = 0;
         add_step(&j, SF_SIGNAL, 0, 0);
         for (unsigned steps = signal < 1 ? 3 : 2; steps > 0; steps--) {
-            uint8_t code = (uint8_t)(1 + below(6));
+            uint8_t code = (uint8_t)(SF_ERODE + below(SF_MEDIAN - SF_ERODE + 1));
             unsigned set, tries = 0;
             do {
-                set = tries++ < 200 ? (below(512) | below(512)) & (below(2) ? 511 : 0x1f << below(5)) : 16;
+                set = tries++ < 200 ? large_set() : MIDDLE;
                 if (code == SF_MEDIAN && __builtin_popcount(set) % 2 == 0)
-                    set ^= 16;
+                    set ^= MIDDLE;
             } while (set == 0 || !moves_reach(code, set, &low, &high));
             uint8_t k = code == SF_RANK ? (uint8_t)(1 + below((unsigned)__builtin_popcount(set))) : 0;
             add_step(&j, code, k, set);
         }
     }
-    while (j.steps < 32)
+    while (j.steps < SF_MOST_STEPS)
         add_step(&j, below(2) ? SF_LARGER : SF_SMALLER, 0, 0);
     return j;
 }
@@ -207,12 +226,21 @@ static job dearest_recipe(void) {
     return *dearest;
 }
 
+/* The recipe that stands in a text, in hex. */
+static job recipe_in(const char *hex) {
+    job j = {.steps = strlen(hex) / (2 * SF_STEP_BYTES)};
+    for (size_t i = 0; i < SF_STEP_BYTES * j.steps; i++)
+        if (sscanf(hex + 2 * i, "%2hhx", &j.recipe[i]) != 1)
+            refuse_to_go_on("a recipe is given in hex");
+    return j;
+}
+
 /* ---- the rows */
 
 static void forms(void) {
     const char *names[] = {"form 24 40 48", "form of the five-point median, 10 terms", "form of rank 5 over 511, 126 terms"};
     job jobs[] = {compiled(after_signal(SF_MEDIAN, 0, 56)), compiled(after_signal(SF_MEDIAN, 0, 124)),
-                  compiled(after_signal(SF_RANK, 5, 511))};
+                  compiled(after_signal(SF_RANK, 5, EVERY_OFFSET))};
     double by_bits[3];
     for (int i = 0; i < 3; i++) {
         row_beside(names[i], clean, clean_plainly, jobs[i]);
@@ -225,25 +253,28 @@ static void forms(void) {
 static void recipes(void) {
     job two = after_signal(SF_OPEN, 0, 48), eight = {.steps = 0};
     add_step(&two, SF_CLOSE, 0, 48);
-    for (int i = 0; i < 8; i++)
+    for (int i = 0; i < SF_MOST_SIGNALS; i++)
         add_step(&eight, SF_SIGNAL, 0, 0);
-    for (int i = 0; i < 7; i++)
+    for (int i = 1; i < SF_MOST_SIGNALS; i++)
         add_step(&eight, SF_LARGER, 0, 0);
     row_beside("recipe open 48, close 48", run, run_plainly, two);
     row_beside("recipe median 124", run, run_plainly, after_signal(SF_MEDIAN, 0, 124));
     row_beside("recipe of eight signals joined by larger", run, run_plainly, eight);
 
-    job dearest = dearest_recipe();
+}
+
+static void compiling(const char *recipe) {
+    job dearest = recipe ? recipe_in(recipe) : dearest_recipe();
     row_alone("compile the dearest of 300 large recipes", compile, dearest);
-    printf("note\tThe dearest recipe, in hex:");
-    for (size_t i = 0; i < 4 * dearest.steps; i++)
-        printf("%s%02x", i % 4 == 0 ? " " : "", dearest.recipe[i]);
+    printf("recipe\t");
+    for (size_t i = 0; i < SF_STEP_BYTES * dearest.steps; i++)
+        printf("%02x", dearest.recipe[i]);
     printf("\n");
 }
 
 static void files(void) {
     job j = compiled(after_signal(SF_MEDIAN, 0, 124));
-    j.file_bytes = 2 * SAMPLES + 2 * j.m + SF_TRAILER_BYTES;
+    j.file_bytes = SF_FILE_BYTES(SAMPLES, j.m);
     demand(sf_write(j.terms, j.m, scan, SAMPLES, j.file, j.file_bytes, &value));
     row_alone("count a file with the five-point median", count, j);
     row_alone("read that file", read_file, j);
@@ -252,7 +283,7 @@ static void files(void) {
 /* The filters that the peers have too, by their forms and by their recipes. */
 static void shared_filters(void) {
     const struct { const char *name; uint8_t code; unsigned set; } filters[] = {
-        {"median of 3", SF_MEDIAN, 56}, {"median of 5", SF_MEDIAN, 124}, {"median of 9", SF_MEDIAN, 511},
+        {"median of 3", SF_MEDIAN, 56}, {"median of 5", SF_MEDIAN, 124}, {"median of 9", SF_MEDIAN, EVERY_OFFSET},
         {"opening by 3", SF_OPEN, 56}, {"opening by 5", SF_OPEN, 124}};
     char name[64];
     for (size_t i = 0; i < sizeof filters / sizeof *filters; i++) {
@@ -267,8 +298,8 @@ static void shared_filters(void) {
 static void ends(void) {
     const uint16_t short_scan[3] = {5, 0, 0};
     job j = after_signal(SF_OPEN, 0, 56);
-    demand(sf_run_recipe(j.recipe, 8, short_scan, 3, ours, 3, &value));
-    plain_run_recipe(j.recipe, 2, short_scan, 3, plains);
+    demand(sf_run_recipe(j.recipe, SF_STEP_BYTES * j.steps, short_scan, 3, ours, 3, &value));
+    plain_run_recipe(j.recipe, j.steps, short_scan, 3, plains);
     printf("opening by 3 of 5 0 0\tsamples\t%d %d %d\t%d %d %d\n", ours[0], ours[1], ours[2], plains[0], plains[1],
            plains[2]);
 }
@@ -280,12 +311,13 @@ static void save_scan(const char *path) {
 }
 
 int main(int count_of_arguments, char **arguments) {
-    if (count_of_arguments != 2)
-        refuse_to_go_on("usage: measure FILE");
+    if (count_of_arguments < 3 || count_of_arguments > 4 || (rounds = atoi(arguments[2])) < 1)
+        refuse_to_go_on("usage: measure FILE ROUNDS [RECIPE]");
     make_scan();
     save_scan(arguments[1]);
     forms();
     recipes();
+    compiling(count_of_arguments > 3 ? arguments[3] : NULL);
     files();
     shared_filters();
     ends();

@@ -49,14 +49,28 @@
 extern "C" {
 #endif
 
-#define SF_MOST_TERMS 126    /* the most terms that a form has */
-#define SF_MOST_SAMPLES 16384 /* the most samples that a scan has */
-#define SF_TABLE_BYTES 64    /* the bytes of a truth table */
-#define SF_TRAILER_BYTES 12  /* the bytes of a scan file after its samples and its terms */
+#define SF_REACH 4                       /* an offset is -SF_REACH to SF_REACH */
+#define SF_WIDTH (2 * SF_REACH + 1)      /* the number of offsets */
+#define SF_PATTERNS (1 << SF_WIDTH)      /* a pattern, or a set of offsets, is a number below this */
+#define SF_TABLE_BYTES (SF_PATTERNS / 8) /* the bytes of a truth table, a bit to a pattern */
+#define SF_MOST_TERMS 126                /* the most terms that a form has */
+#define SF_MOST_SAMPLES 16384            /* the most samples that a scan has */
+#define SF_STEP_BYTES 4                  /* the bytes of a step */
+#define SF_MOST_STEPS 32                 /* the most steps that a recipe has */
+#define SF_LONGEST_RECIPE (SF_STEP_BYTES * SF_MOST_STEPS)
+#define SF_MOST_SIGNALS 8                /* the most signals that are held at once */
+#define SF_PRESETS 20                    /* the number of presets */
+#define SF_MOST_PRESET_TERMS 3           /* the most terms that a preset has */
+#define SF_TRAILER_BYTES 12              /* the bytes of a scan file after its samples and its terms */
+#define SF_COUNTS 5                      /* how many counts the report has */
+
+/* The bytes of a scan file that holds so many samples and terms, and of the longest one. */
+#define SF_FILE_BYTES(samples, terms) (2 * (samples) + 2 * (terms) + SF_TRAILER_BYTES)
+#define SF_LONGEST_FILE SF_FILE_BYTES(SF_MOST_SAMPLES, SF_MOST_TERMS)
 
 /* The codes of a recipe's steps. B is a set of offsets; a field not named must be 0. */
 enum {
-    SF_SIGNAL = 0,  /* adds the scan to the signals held, of which there are at most 8 */
+    SF_SIGNAL = 0,  /* adds the scan to the signals held, of which there are at most SF_MOST_SIGNALS */
     SF_ERODE = 1,   /* B: least of g(x+b) */
     SF_DILATE = 2,  /* B: largest of g(x-b) */
     SF_OPEN = 3,    /* B: erode, then dilate */
@@ -109,7 +123,7 @@ uint8_t sf_residue(const uint16_t *terms, size_t m, const uint16_t *scan, size_t
 uint8_t sf_root(const uint16_t *terms, size_t m, const uint16_t *scan, size_t samples, size_t *value);
 
 /*
- * Writes the form of a positive truth table of 64 bytes to the start of terms; *value is the number
+ * Writes the form of a positive truth table, SF_TABLE_BYTES, to the start of terms; *value is the number
  * of terms. Bit v mod 8 of byte v / 8 is the value on pattern v. SF_MOST_TERMS elements are always
  * enough.
  * Refuses 13, 12, 6.
@@ -117,14 +131,14 @@ uint8_t sf_root(const uint16_t *terms, size_t m, const uint16_t *scan, size_t sa
 uint8_t sf_table_to_form(const uint8_t *table, size_t n, uint16_t *terms, size_t lent, size_t *value);
 
 /*
- * Writes the truth table of a form to table, where lent is 64; *value is the number of terms.
+ * Writes the truth table of a form to table, where lent is SF_TABLE_BYTES; *value is the number of terms.
  * Refuses 7, 8, 13.
  */
 uint8_t sf_form_to_table(const uint16_t *terms, size_t m, uint8_t *table, size_t lent, size_t *value);
 
 /*
  * Writes the form of preset 0 to 19, the filters of three samples, to the start of terms; *value is
- * the number of terms. Preset 10 is the median. Three elements are always enough.
+ * the number of terms. Preset 10 is the median. SF_MOST_PRESET_TERMS elements are always enough.
  * Refuses 14, 6.
  */
 uint8_t sf_preset(uint64_t number, uint16_t *terms, size_t lent, size_t *value);
@@ -140,7 +154,7 @@ uint8_t sf_read(const uint8_t *file, size_t n, uint16_t *samples, size_t lent_sa
 
 /*
  * Writes the scan file that holds this form and this scan to out, where lent is
- * 2 * samples + 2 * m + SF_TRAILER_BYTES; *value is that length.
+ * SF_FILE_BYTES(samples, m); *value is that length.
  * Refuses 7, 8, 9, 10.
  */
 uint8_t sf_write(const uint16_t *terms, size_t m, const uint16_t *scan, size_t samples,
@@ -152,7 +166,7 @@ uint8_t sf_write(const uint16_t *terms, size_t m, const uint16_t *scan, size_t s
  * of negative residues with the sign dropped; *value is the number of samples.
  * Refuses 11, 7, 8, 9.
  */
-uint8_t sf_count(const uint8_t *file, size_t n, uint64_t counts[5], size_t *value);
+uint8_t sf_count(const uint8_t *file, size_t n, uint64_t counts[SF_COUNTS], size_t *value);
 
 #ifdef __cplusplus
 }

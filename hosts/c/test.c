@@ -24,6 +24,10 @@ static void same(const char *what, const void *held, const void *expected, size_
     }
 }
 
+/* What follows from other numbers is what the scope document says in figures. */
+_Static_assert(SF_PATTERNS == 512 && SF_TABLE_BYTES == 64, "patterns and tables");
+_Static_assert(SF_LONGEST_RECIPE == 128 && SF_LONGEST_FILE == 33032, "recipes and files");
+
 static const uint8_t MEDIAN[] = {SF_STEP(SF_SIGNAL, 0, 0), SF_STEP(SF_MEDIAN, 0, 56)};
 static const uint16_t FORM[] = {24, 40, 48}, UNSORTED[] = {24, 16};
 static const uint16_t SCAN[] = {10, 10, 90, 10, 10};
@@ -84,30 +88,31 @@ static void scans(void) {
 }
 
 static void tables(void) {
-    uint8_t table[65], before[65];
+    const size_t whole = SF_TABLE_BYTES;
+    uint8_t table[SF_TABLE_BYTES + 1], before[SF_TABLE_BYTES + 1];
     memset(table, 9, sizeof table);
     memset(before, 9, sizeof before);
-    expect("form_to_table, unsorted", sf_form_to_table(UNSORTED, 2, table, 64, &value), 7, 1);
-    expect("form_to_table, 65 lent", sf_form_to_table(FORM, 3, table, 65, &value), 13, 65);
+    expect("form_to_table, unsorted", sf_form_to_table(UNSORTED, 2, table, whole, &value), 7, 1);
+    expect("form_to_table, one more lent", sf_form_to_table(FORM, 3, table, whole + 1, &value), 13, whole + 1);
     same("form_to_table, refused", table, before, sizeof table);
-    expect("form_to_table", sf_form_to_table(FORM, 3, table, 64, &value), 0, 3);
-    same("form_to_table, behind", table + 64, before + 64, 1);
+    expect("form_to_table", sf_form_to_table(FORM, 3, table, whole, &value), 0, 3);
+    same("form_to_table, behind", table + whole, before + whole, 1);
 
     uint16_t terms[4] = {1, 2, 3, 4};
-    expect("table_to_form, 63 bytes", sf_table_to_form(table, 63, terms, 4, &value), 13, 63);
-    expect("table_to_form, two lent", sf_table_to_form(table, 64, terms, 2, &value), 6, 3);
+    expect("table_to_form, a byte less", sf_table_to_form(table, whole - 1, terms, 4, &value), 13, whole - 1);
+    expect("table_to_form, two lent", sf_table_to_form(table, whole, terms, 2, &value), 6, 3);
     same("table_to_form, refused", terms, (uint16_t[]){1, 2, 3, 4}, sizeof terms);
-    expect("table_to_form", sf_table_to_form(table, 64, terms, 4, &value), 0, 3);
+    expect("table_to_form", sf_table_to_form(table, whole, terms, 4, &value), 0, 3);
     same("table_to_form", terms, (uint16_t[]){24, 40, 48, 4}, sizeof terms);
     memset(table, 0, sizeof table);
     table[0] = 1;
-    expect("table_to_form, true only on 0", sf_table_to_form(table, 64, terms, 4, &value), 12, 0);
+    expect("table_to_form, true only on 0", sf_table_to_form(table, whole, terms, 4, &value), 12, 0);
 
     expect("preset 10", sf_preset(10, terms, 4, &value), 0, 3);
     same("preset 10", terms, (uint16_t[]){24, 40, 48, 4}, sizeof terms);
     expect("preset 10, two lent", sf_preset(10, terms, 2, &value), 6, 3);
     expect("preset 0, none lent", sf_preset(0, terms, 0, &value), 0, 0);
-    expect("preset 20", sf_preset(20, terms, 4, &value), 14, 20);
+    expect("preset 20", sf_preset(SF_PRESETS, terms, 4, &value), 14, SF_PRESETS);
     expect("preset 2^32", sf_preset((uint64_t)1 << 32, terms, 4, &value), 14, (size_t)1 << 32);
 }
 
@@ -134,7 +139,7 @@ static void files(void) {
     same("read", terms, (uint16_t[]){24, 40, 48, 4}, sizeof terms);
     same("read", &terms_read, (size_t[]){3}, sizeof terms_read);
 
-    uint64_t counts[6] = {1, 2, 3, 4, 5, 6};
+    uint64_t counts[SF_COUNTS + 1] = {1, 2, 3, 4, 5, 6};
     expect("count, no bytes", sf_count(FILE_BYTES, 0, counts, &value), 11, 0);
     same("count, refused", counts, (uint64_t[]){1, 2, 3, 4, 5, 6}, sizeof counts);
     expect("count", sf_count(FILE_BYTES, 28, counts, &value), 0, 5);

@@ -35,25 +35,47 @@ try:
 except ImportError:
     numpy = None
 
+# The library's numbers; what follows from others stands as that.
+REACH = 4
+WIDTH = 2 * REACH + 1
+PATTERNS = 2 ** WIDTH
+TABLE_BYTES = PATTERNS // 8
 MOST_TERMS = 126
-TABLE_BYTES = 64
+MOST_SAMPLES = 16_384
+STEP_BYTES = 4
+MOST_STEPS = 32
+LONGEST_RECIPE = STEP_BYTES * MOST_STEPS
+PRESETS = 20
+WORD_BYTES = 2
 TRAILER_BYTES = 12
 
+
+def file_bytes(samples, terms):
+    """How long a scan file is that holds so many samples and terms."""
+    return WORD_BYTES * samples + WORD_BYTES * terms + TRAILER_BYTES
+
+
+LONGEST_FILE = file_bytes(MOST_SAMPLES, MOST_TERMS)
+
+# The codes of a recipe's steps.
+CODES = {"signal": 0, "erode": 1, "dilate": 2, "open": 3, "close": 4, "rank": 5, "median": 6, "larger": 7,
+         "smaller": 8}
+
 SENTENCES = {
-    1: "a recipe has 4 to 128 bytes, a multiple of 4, and this has {}",
-    2: "step {} has a code over 8",
+    1: f"a recipe has {STEP_BYTES} to {LONGEST_RECIPE} bytes, a multiple of {STEP_BYTES}, and this has {{}}",
+    2: f"step {{}} has a code over {max(CODES.values())}",
     3: "step {} has a field that is not allowed",
     4: "at step {} too few signals are held, a ninth is added, or not one is left at the end",
-    5: "at step {} the reach leaves -4 to 4",
+    5: f"at step {{}} the reach leaves -{REACH} to {REACH}",
     6: "{} elements are needed for the terms, and fewer were lent",
-    7: "term {} is over 511, not above its predecessor, or contains an earlier one",
-    8: "a form has at most 126 terms, and this has {}",
-    9: "a scan has 1 to 16,384 samples, and this has {}",
+    7: f"term {{}} is over {PATTERNS - 1}, not above its predecessor, or contains an earlier one",
+    8: f"a form has at most {MOST_TERMS} terms, and this has {{}}",
+    9: f"a scan has 1 to {MOST_SAMPLES:,} samples, and this has {{}}",
     10: "the output has the wrong length, and {} is needed",
     11: "the scan file is badly laid out",
     12: "the truth table is 1 on pattern {} and 0 with one offset more, so it is not positive",
-    13: "a truth table has 64 bytes, and this slice has {}",
-    14: "presets have the numbers 0 to 19, and {} was asked for",
+    13: f"a truth table has {TABLE_BYTES} bytes, and this slice has {{}}",
+    14: f"presets have the numbers 0 to {PRESETS - 1}, and {{}} was asked for",
 }
 
 
@@ -76,11 +98,6 @@ ScanFile.__doc__ = "What a scan file holds."
 Counts = collections.namedtuple("Counts", "samples changed spikes above below")
 Counts.__doc__ = """What the report says about a scan file: samples, changed samples, runs of neighbouring
 changed samples, total of positive residues, total of negative residues with the sign dropped."""
-
-# The codes of a recipe's steps.
-CODES = {"signal": 0, "erode": 1, "dilate": 2, "open": 3, "close": 4, "rank": 5, "median": 6, "larger": 7,
-         "smaller": 8}
-
 
 def recipe(*steps):
     """The bytes of a recipe: each step is a name, or a tuple of a name, the rank if it has one, and the
@@ -147,8 +164,8 @@ def root(terms, scan):
 
 
 def table_to_form(table):
-    """The terms of the form of a positive truth table of 64 bytes: bit v % 8 of byte v // 8 is the value
-    on pattern v.
+    """The terms of the form of a positive truth table of TABLE_BYTES: bit v % 8 of byte v // 8 is the
+    value on pattern v.
 
     Refuses 13, 12.
     """
@@ -157,7 +174,7 @@ def table_to_form(table):
 
 
 def form_to_table(terms):
-    """The 64 bytes of a form's truth table.
+    """The bytes of a form's truth table.
 
     Refuses 7, 8.
     """
@@ -182,7 +199,7 @@ def read(file):
     Refuses 11, 7, 8, 9.
     """
     given = _give("B", file)
-    samples, terms = _lend("H", given.length // 2), _lend("H", MOST_TERMS)
+    samples, terms = _lend("H", given.length // WORD_BYTES), _lend("H", MOST_TERMS)
     terms_read = ctypes.c_size_t()
     samples_read = _call("sf_read", given, samples, terms, after_value=ctypes.byref(terms_read))
     return ScanFile(samples.first(samples_read, file), terms.first(terms_read.value, file))
@@ -194,7 +211,7 @@ def write(terms, scan):
     Refuses 7, 8, 9.
     """
     form, samples = _give("H", terms), _give("H", scan)
-    out = _lend("B", 2 * samples.length + 2 * form.length + TRAILER_BYTES)
+    out = _lend("B", file_bytes(samples.length, form.length))
     _call("sf_write", form, samples, out)
     return out.elements[:out.length].tobytes()
 
@@ -204,7 +221,7 @@ def count(file):
 
     Refuses 11, 7, 8, 9.
     """
-    counts = (ctypes.c_uint64 * 5)()
+    counts = (ctypes.c_uint64 * len(Counts._fields))()
     _call("sf_count", _give("B", file), counts)
     return Counts(*counts)
 

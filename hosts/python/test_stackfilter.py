@@ -7,11 +7,18 @@ import doctest
 import unittest
 
 import stackfilter
-from stackfilter import Counts, Refused, ScanFile, recipe
+from stackfilter import (LONGEST_FILE, LONGEST_RECIPE, MOST_SAMPLES, PATTERNS, PRESETS, STEP_BYTES, TABLE_BYTES,
+                         Counts, Refused, ScanFile, recipe)
 
 MEDIAN = [24, 40, 48]
 SCAN = [10, 10, 90, 10, 10]
 FILE = bytes.fromhex("0A000A005A000A000A00 180028003000 1C000000 12000000 0300 5346")
+TOP = 65535
+
+
+class Numbers(unittest.TestCase):
+    def test_what_follows_from_others_is_what_the_document_says(self):
+        self.assertEqual((PATTERNS, TABLE_BYTES, LONGEST_RECIPE, LONGEST_FILE), (512, 64, 128, 33032))
 
 
 class Answers(unittest.TestCase):
@@ -30,15 +37,15 @@ class Answers(unittest.TestCase):
         self.assertEqual(stackfilter.clean(MEDIAN, SCAN), [10] * 5)
         self.assertEqual(stackfilter.clean([], [3, 9]), [0, 0])
         self.assertEqual(stackfilter.residue(MEDIAN, SCAN), [0, 0, 80, 0, 0])
-        self.assertEqual(stackfilter.residue([0], [0, 65535]), [-65535, 0])
+        self.assertEqual(stackfilter.residue([0], [0, TOP]), [-TOP, 0])
         self.assertEqual(stackfilter.root(MEDIAN, SCAN), 2)
         self.assertIsNone(stackfilter.root(MEDIAN, [10, 10, 90, 90]))
 
     def test_tables_and_presets(self):
-        for number in range(20):
+        for number in range(PRESETS):
             terms = stackfilter.preset(number)
             table = stackfilter.form_to_table(terms)
-            self.assertEqual((type(table), len(table)), (bytes, 64))
+            self.assertEqual((type(table), len(table)), (bytes, TABLE_BYTES))
             self.assertEqual(stackfilter.table_to_form(table), terms)
         self.assertEqual(stackfilter.preset(10), MEDIAN)
 
@@ -48,7 +55,7 @@ class Answers(unittest.TestCase):
         self.assertEqual(stackfilter.count(FILE), Counts(5, 1, 1, 80, 0))
 
     def test_the_longest_scan(self):
-        scan = [number * 40503 % 65536 for number in range(16384)]
+        scan = [number * 40503 % (TOP + 1) for number in range(MOST_SAMPLES)]
         self.assertEqual(stackfilter.clean([16], scan), scan)
         self.assertEqual(stackfilter.read(stackfilter.write([16], scan)).samples, scan)
 
@@ -63,7 +70,7 @@ class Arguments(unittest.TestCase):
         self.assertEqual(stackfilter.count(list(FILE)).above, 80)
 
     def test_numbers_that_do_not_fit_are_never_cut(self):
-        for scan in ([65536], [-1]):
+        for scan in ([TOP + 1], [-1]):
             self.assertRaises(OverflowError, stackfilter.clean, MEDIAN, scan)
         self.assertRaises(OverflowError, stackfilter.compile, [256, 0, 0, 0])
         self.assertRaises(OverflowError, stackfilter.preset, -1)
@@ -81,7 +88,8 @@ class Refusals(unittest.TestCase):
 
     def test_recipes(self):
         self.refused(1, 0, stackfilter.compile, b"")
-        self.refused(1, 132, stackfilter.compile, bytes(132))
+        longer = LONGEST_RECIPE + STEP_BYTES
+        self.refused(1, longer, stackfilter.compile, bytes(longer))
         self.refused(2, 0, stackfilter.compile, [9, 0, 0, 0])
         self.refused(3, 1, stackfilter.compile, recipe("signal", ("erode", 0)))
         self.refused(4, 0, stackfilter.compile, recipe(("erode", 48)))
@@ -92,12 +100,12 @@ class Refusals(unittest.TestCase):
         for call in (stackfilter.clean, stackfilter.residue, stackfilter.root, stackfilter.write):
             self.refused(7, 1, call, [24, 16], SCAN)
             self.refused(9, 0, call, MEDIAN, [])
-            self.refused(9, 16385, call, MEDIAN, [7] * 16385)
+            self.refused(9, MOST_SAMPLES + 1, call, MEDIAN, [7] * (MOST_SAMPLES + 1))
         self.refused(7, 1, stackfilter.form_to_table, [16, 24])
 
     def test_tables_presets_and_files(self):
-        self.refused(13, 63, stackfilter.table_to_form, bytes(63))
-        self.refused(12, 0, stackfilter.table_to_form, b"\x01" + bytes(63))
+        self.refused(13, TABLE_BYTES - 1, stackfilter.table_to_form, bytes(TABLE_BYTES - 1))
+        self.refused(12, 0, stackfilter.table_to_form, b"\x01" + bytes(TABLE_BYTES - 1))
         self.refused(14, 2 ** 32, stackfilter.preset, 2 ** 32)
         self.refused(11, 0, stackfilter.read, b"")
         self.refused(11, 0, stackfilter.count, FILE[1:])
@@ -136,7 +144,7 @@ class Arrays(unittest.TestCase):
         numpy = stackfilter.numpy
         for scan in (numpy.array([1.5]), numpy.array([[1, 2]]), numpy.array([True])):
             self.assertRaises(TypeError, stackfilter.clean, MEDIAN, scan)
-        for scan in (numpy.array([-1]), numpy.array([65536])):
+        for scan in (numpy.array([-1]), numpy.array([TOP + 1])):
             self.assertRaises(OverflowError, stackfilter.clean, MEDIAN, scan)
         with self.assertRaises(Refused):
             stackfilter.clean(MEDIAN, numpy.array([], "uint16"))

@@ -20,21 +20,16 @@
 //! # Ok::<(), stackfilter::Refusal>(())
 //! ```
 
+pub mod limits;
 pub mod raw;
 mod refusal;
 mod step;
 
+pub use limits::{MOST_SAMPLES, MOST_TERMS, TABLE_BYTES, TRAILER_BYTES};
 pub use refusal::Refusal;
 pub use step::{recipe, Step};
 
-/// The most terms that a form has.
-pub const MOST_TERMS: usize = 126;
-/// The most samples that a scan has.
-pub const MOST_SAMPLES: usize = 16_384;
-/// The bytes of a truth table.
-pub const TABLE_BYTES: usize = 64;
-/// The bytes at the end of a scan file that say where its samples and its terms stand.
-pub const TRAILER_BYTES: usize = 12;
+use limits::{file_bytes, COUNTS, WORD_BYTES};
 
 /// The form that a recipe computes.
 ///
@@ -191,15 +186,15 @@ pub fn root(terms: &[u16], scan: &[u16]) -> Result<Option<usize>, Refusal> {
     Ok(Some(first).filter(|first| *first < scan.len()))
 }
 
-/// The form of a positive truth table of 64 bytes: bit v mod 8 of byte v / 8 is the value on
+/// The form of a positive truth table of [`TABLE_BYTES`]: bit v mod 8 of byte v / 8 is the value on
 /// pattern v.
 ///
 /// Refuses 13, 12.
 ///
 /// ```
-/// use stackfilter::{table_to_form, Refusal};
-/// assert_eq!(table_to_form(&[255; 64]), Ok(vec![0]));
-/// let mut only_on_pattern_0 = [0; 64];
+/// use stackfilter::{table_to_form, Refusal, TABLE_BYTES};
+/// assert_eq!(table_to_form(&[255; TABLE_BYTES]), Ok(vec![0]));
+/// let mut only_on_pattern_0 = [0; TABLE_BYTES];
 /// only_on_pattern_0[0] = 1;
 /// assert_eq!(table_to_form(&only_on_pattern_0), Err(Refusal::NotPositive { pattern: 0 }));
 /// ```
@@ -232,7 +227,7 @@ pub fn form_to_table(terms: &[u16]) -> Result<[u8; TABLE_BYTES], Refusal> {
     Ok(table)
 }
 
-/// Writes the truth table of a form to `table`, which has 64 bytes, and gives the number of terms.
+/// Writes the truth table of a form to `table`, which has [`TABLE_BYTES`], and gives the number of terms.
 ///
 /// Refuses 7, 8, 13.
 pub fn form_to_table_into(terms: &[u16], table: &mut [u8]) -> Result<usize, Refusal> {
@@ -253,8 +248,8 @@ pub fn preset(number: u64) -> Result<Vec<u16>, Refusal> {
     terms_by(|terms| preset_into(number, terms))
 }
 
-/// Writes the form of a preset to the start of `terms` and gives the number of its terms; 3 elements
-/// are always enough.
+/// Writes the form of a preset to the start of `terms` and gives the number of its terms;
+/// [`MOST_PRESET_TERMS`](limits::MOST_PRESET_TERMS) elements are always enough.
 ///
 /// Refuses 14, 6.
 pub fn preset_into(number: u64, terms: &mut [u16]) -> Result<usize, Refusal> {
@@ -282,8 +277,8 @@ pub struct ScanFile {
 /// # Ok::<(), Refusal>(())
 /// ```
 pub fn read(file: &[u8]) -> Result<ScanFile, Refusal> {
-    // A sample takes two bytes, so no file holds more samples than this.
-    let mut samples = vec![0; file.len() / 2];
+    // No file holds more samples than this.
+    let mut samples = vec![0; file.len() / WORD_BYTES];
     let mut terms = vec![0; MOST_TERMS];
     let (samples_read, terms_read) = read_into(file, &mut samples, &mut terms)?;
     samples.truncate(samples_read);
@@ -322,13 +317,12 @@ pub fn read_into(file: &[u8], samples: &mut [u16], terms: &mut [u16]) -> Result<
 /// # Ok::<(), stackfilter::Refusal>(())
 /// ```
 pub fn write(terms: &[u16], scan: &[u16]) -> Result<Vec<u8>, Refusal> {
-    let mut out = vec![0; 2 * scan.len() + 2 * terms.len() + TRAILER_BYTES];
+    let mut out = vec![0; file_bytes(scan.len(), terms.len())];
     write_into(terms, scan, &mut out)?;
     Ok(out)
 }
 
-/// Writes the scan file to `out`, which has 2 bytes for each sample, 2 for each term and 12 more, and
-/// gives its length.
+/// Writes the scan file to `out`, whose length is [`file_bytes`], and gives that length.
 ///
 /// Refuses 7, 8, 9, 10.
 pub fn write_into(terms: &[u16], scan: &[u16], out: &mut [u8]) -> Result<usize, Refusal> {
@@ -371,7 +365,7 @@ pub struct Counts {
 /// # Ok::<(), stackfilter::Refusal>(())
 /// ```
 pub fn count(file: &[u8]) -> Result<Counts, Refusal> {
-    let mut counts = [0; 5];
+    let mut counts = [0; COUNTS];
     answer(|value| unsafe { raw::sf_count(file.as_ptr(), file.len(), &mut counts, value) })?;
     let [samples, changed, spikes, above, below] = counts;
     Ok(Counts { samples, changed, spikes, above, below })

@@ -8,6 +8,8 @@
 //! Every pointer is aligned and never null, also where its length is 0; it is good for its length;
 //! and what a call writes overlaps nothing else that it is given.
 
+use crate::limits::COUNTS;
+
 extern "C" {
     pub fn sf_compile(recipe: *const u8, n: usize, terms: *mut u16, lent: usize, value: *mut usize) -> u8;
     pub fn sf_run_recipe(
@@ -72,5 +74,5 @@ extern "C" {
         lent: usize,
         value: *mut usize,
     ) -> u8;
-    pub fn sf_count(file: *const u8, n: usize, counts: *mut [u64; 5], value: *mut usize) -> u8;
+    pub fn sf_count(file: *const u8, n: usize, counts: *mut [u64; COUNTS], value: *mut usize) -> u8;
 }

@@ -1,5 +1,8 @@
 //! Why a call says no.
 
+use crate::limits::{
+    LAST_CODE, LONGEST_RECIPE, MOST_SAMPLES, MOST_TERMS, PATTERNS, PRESETS, REACH, STEP_BYTES, TABLE_BYTES,
+};
 use std::error::Error;
 use std::fmt;
 
@@ -115,25 +118,33 @@ impl fmt::Display for Refusal {
         let place = self.place();
         match self {
             Refusal::RecipeLength { .. } => {
-                write!(f, "a recipe has 4 to 128 bytes, a multiple of 4, and this has {place}")
+                write!(
+                    f,
+                    "a recipe has {STEP_BYTES} to {LONGEST_RECIPE} bytes, a multiple of {STEP_BYTES}, and this has {place}"
+                )
             }
-            Refusal::StepCode { .. } => write!(f, "step {place} has a code over 8"),
+            Refusal::StepCode { .. } => write!(f, "step {place} has a code over {LAST_CODE}"),
             Refusal::StepField { .. } => write!(f, "step {place} has a field that is not allowed"),
             Refusal::SignalsHeld { .. } => {
                 write!(f, "at step {place} too few signals are held, a ninth is added, or not one is left at the end")
             }
-            Refusal::Reach { .. } => write!(f, "at step {place} the reach leaves -4 to 4"),
+            Refusal::Reach { .. } => write!(f, "at step {place} the reach leaves -{REACH} to {REACH}"),
             Refusal::TermsLent { .. } => {
                 write!(f, "{place} elements are needed for the terms, and fewer were lent")
             }
             Refusal::Term { .. } => {
-                write!(f, "term {place} is over 511, not above its predecessor, or contains an earlier one")
+                let most = PATTERNS - 1;
+                write!(
+                    f,
+                    "term {place} is over {most}, not above its predecessor, or contains an earlier one"
+                )
             }
             Refusal::FormSize { .. } => {
-                write!(f, "a form has at most 126 terms, and this has {place}")
+                write!(f, "a form has at most {MOST_TERMS} terms, and this has {place}")
             }
             Refusal::ScanSize { .. } => {
-                write!(f, "a scan has 1 to 16,384 samples, and this has {place}")
+                let (thousands, rest) = (MOST_SAMPLES / 1000, MOST_SAMPLES % 1000);
+                write!(f, "a scan has 1 to {thousands},{rest:03} samples, and this has {place}")
             }
             Refusal::OutputLength { .. } => {
                 write!(f, "the output has the wrong length, and {place} is needed")
@@ -143,10 +154,11 @@ impl fmt::Display for Refusal {
                 write!(f, "the truth table is 1 on pattern {place} and 0 with one offset more, so it is not positive")
             }
             Refusal::TableLength { .. } => {
-                write!(f, "a truth table has 64 bytes, and this slice has {place}")
+                write!(f, "a truth table has {TABLE_BYTES} bytes, and this slice has {place}")
             }
             Refusal::PresetNumber { .. } => {
-                write!(f, "presets have the numbers 0 to 19, and {place} was asked for")
+                let last = PRESETS - 1;
+                write!(f, "presets have the numbers 0 to {last}, and {place} was asked for")
             }
         }
     }

@@ -1,5 +1,7 @@
 //! Recipes by the names of their steps.
 
+use crate::limits::STEP_BYTES;
+
 /// One step of a recipe. A set of offsets is a number 0 to 511, in which offset d, from -4 to 4, is
 /// worth 2^(d+4): {-1, 0, 1} is 56.
 #[derive(Clone, Copy, Debug, PartialEq, Eq)]
@@ -25,8 +27,8 @@ pub enum Step {
 }
 
 impl Step {
-    /// The four bytes of this step: code, rank, and the set with its low byte first.
-    pub fn bytes(self) -> [u8; 4] {
+    /// The bytes of this step: code, rank, and the set with its low byte first.
+    pub fn bytes(self) -> [u8; STEP_BYTES] {
         let (code, rank, set) = match self {
             Step::Signal => (0, 0, 0),
             Step::Erode(set) => (1, 0, set),

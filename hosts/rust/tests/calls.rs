@@ -1,10 +1,20 @@
 //! The scope document's cases, through the safe interface.
 
+use stackfilter::limits::{LONGEST_FILE, LONGEST_RECIPE, PATTERNS, PRESETS, STEP_BYTES};
 use stackfilter::*;
+
+/// The largest sample, and the set of every offset.
+const TOP: u16 = u16::MAX;
+const EVERY_OFFSET: u16 = PATTERNS as u16 - 1;
 
 /// A recipe of these steps after a signal.
 fn after_signal(steps: &[Step]) -> Vec<u8> {
     recipe(&[&[Step::Signal], steps].concat())
+}
+
+#[test]
+fn what_follows_from_other_numbers_is_what_the_document_says() {
+    assert_eq!((PATTERNS, TABLE_BYTES, LONGEST_RECIPE, LONGEST_FILE), (512, 64, 128, 33_032));
 }
 
 #[test]
@@ -28,7 +38,10 @@ fn recipes_compile_to_their_forms() {
     for (steps, terms) in cases {
         assert_eq!(compile(&after_signal(steps)).as_deref(), Ok(terms), "{steps:?}");
     }
-    assert_eq!(compile(&after_signal(&[Step::Rank(5, 511)])).map(|terms| terms.len()), Ok(MOST_TERMS));
+    assert_eq!(
+        compile(&after_signal(&[Step::Rank(5, EVERY_OFFSET)])).map(|terms| terms.len()),
+        Ok(MOST_TERMS)
+    );
 }
 
 #[test]
@@ -46,7 +59,8 @@ fn faulty_recipes_are_refused() {
         assert_eq!(run_recipe(&after_signal(steps), &[7]), Err(refusal), "{steps:?}");
     }
     assert_eq!(compile(&[]), Err(Refusal::RecipeLength { bytes: 0 }));
-    assert_eq!(compile(&[0; 132]), Err(Refusal::RecipeLength { bytes: 132 }));
+    let bytes = LONGEST_RECIPE + STEP_BYTES;
+    assert_eq!(compile(&vec![0; bytes]), Err(Refusal::RecipeLength { bytes }));
     assert_eq!(compile(&[0, 0, 0, 0, 9, 1, 1, 1]), Err(Refusal::StepCode { step: 1 }));
     assert_eq!(compile(&[0; 36]), Err(Refusal::SignalsHeld { step: 8 }));
 }
@@ -68,14 +82,14 @@ fn recipes_run_on_the_endless_signal() {
 #[test]
 fn constant_forms_give_constants() {
     assert_eq!(clean(&[], &[3, 9]), Ok(vec![0, 0]));
-    assert_eq!(clean(&[0], &[3, 9]), Ok(vec![65_535, 65_535]));
-    assert_eq!(residue(&[0], &[0, 65_535]), Ok(vec![-65_535, 0]));
-    assert_eq!(residue(&[], &[0, 65_535]), Ok(vec![0, 65_535]));
+    assert_eq!(clean(&[0], &[3, 9]), Ok(vec![TOP, TOP]));
+    assert_eq!(residue(&[0], &[0, TOP]), Ok(vec![-(TOP as i32), 0]));
+    assert_eq!(residue(&[], &[0, TOP]), Ok(vec![0, TOP as i32]));
 }
 
 #[test]
 fn faulty_forms_are_refused_by_every_call_that_takes_one() {
-    for terms in [[24, 16], [16, 24], [16, 16], [16, 512]] {
+    for terms in [[24, 16], [16, 24], [16, 16], [16, PATTERNS as u16]] {
         let refusal = Refusal::Term { index: 1 };
         assert_eq!(clean(&terms, &[7]), Err(refusal));
         assert_eq!(residue(&terms, &[7]), Err(refusal));
@@ -86,7 +100,7 @@ fn faulty_forms_are_refused_by_every_call_that_takes_one() {
 }
 
 #[test]
-fn scans_have_1_to_16384_samples() {
+fn scans_have_one_to_the_most_samples() {
     for samples in [0, MOST_SAMPLES + 1] {
         let scan = vec![7; samples];
         let refusal = Refusal::ScanSize { samples };
@@ -108,16 +122,18 @@ fn lent_slices_keep_what_no_answer_fills() {
         Err(Refusal::OutputLength { needed: 2 })
     );
     assert_eq!(preset_into(10, &mut out[..2]), Err(Refusal::TermsLent { needed: 3 }));
-    assert_eq!(table_to_form_into(&[255; 63], &mut out), Err(Refusal::TableLength { bytes: 63 }));
+    let bytes = TABLE_BYTES - 1;
+    assert_eq!(table_to_form_into(&vec![255; bytes], &mut out), Err(Refusal::TableLength { bytes }));
     assert_eq!(out, [1, 2, 3]);
-    assert_eq!(table_to_form_into(&[255; 64], &mut out), Ok(1));
+    assert_eq!(table_to_form_into(&[255; TABLE_BYTES], &mut out), Ok(1));
     assert_eq!(out, [0, 2, 3]);
     assert_eq!(preset_into(0, &mut []), Ok(0));
 
-    let mut table = [9; 65];
-    assert_eq!(form_to_table_into(&[16], &mut table), Err(Refusal::TableLength { bytes: 65 }));
-    assert_eq!(table, [9; 65]);
-    assert_eq!(form_to_table_into(&[24, 40, 48], &mut table[..64]), Ok(3));
+    let bytes = TABLE_BYTES + 1;
+    let mut table = vec![9; bytes];
+    assert_eq!(form_to_table_into(&[16], &mut table), Err(Refusal::TableLength { bytes }));
+    assert_eq!(table, vec![9; bytes]);
+    assert_eq!(form_to_table_into(&[24, 40, 48], &mut table[..TABLE_BYTES]), Ok(3));
 
     let mut residues = [5];
     assert_eq!(residue_into(&[16], &[7, 8], &mut residues), Err(Refusal::OutputLength { needed: 2 }));
@@ -157,7 +173,7 @@ fn files_are_written_read_and_counted() {
 
 #[test]
 fn presets_are_the_filters_of_three_samples() {
-    for number in 0..20 {
+    for number in 0..PRESETS as u64 {
         let terms = preset(number).unwrap();
         assert_eq!(table_to_form(&form_to_table(&terms).unwrap()), Ok(terms));
     }

@@ -7,6 +7,7 @@
 mod independent;
 mod inputs;
 
+use independent::limits::{file_bytes, PRESETS, TABLE_BYTES};
 use independent::No;
 use inputs::Random;
 use stackfilter::{raw, Refusal};
@@ -257,7 +258,7 @@ fn table_to_form() {
 fn form_to_table() {
     try_call(6, &[0, 7, 13], |random| {
         let terms = random.terms();
-        let lent = random.exact_length(64);
+        let lent = random.exact_length(TABLE_BYTES);
         let mut table = lend_u8(random, lent);
         let expected = independent::form_to_table(&terms, table.len());
         let mut value = lend_usize(random);
@@ -267,7 +268,7 @@ fn form_to_table() {
         let (no, gives) = outcome(&expected, |_| terms.len());
         let raw_same =
             number == no && value.holds(&[gives]) && table.holds(written(&expected, |table| table));
-        let ample = independent::form_to_table(&terms, 64);
+        let ample = independent::form_to_table(&terms, TABLE_BYTES);
         let safe = plain(stackfilter::form_to_table(&terms)).map(Vec::from);
         let complaint =
             complain(raw_same, &terms, &(table.len(), &expected), &(number, &value.now, &table.now))
@@ -281,8 +282,21 @@ fn preset() {
     try_call(7, &[0, 6, 14], |random| {
         let preset = match random.below(4) {
             0 => random.bits() >> random.below(64),
-            1 => random.one_of(&[19, 20, 255, 256, 276, 65_536, u32::MAX as u64, 1 << 32, u64::MAX]),
-            _ => random.below(20) as u64,
+            1 => {
+                let presets = PRESETS as u64;
+                random.one_of(&[
+                    presets - 1,
+                    presets,
+                    255,
+                    256,
+                    256 + presets,
+                    1 << 16,
+                    u32::MAX as u64,
+                    1 << 32,
+                    u64::MAX,
+                ])
+            }
+            _ => random.below(PRESETS) as u64,
         };
         let lent = random.below(6);
         compare(
@@ -339,7 +353,7 @@ fn read() {
 fn write() {
     try_call(9, &[0, 7, 9, 10], |random| {
         let (terms, scan) = (random.terms(), random.scan());
-        let needed = 2 * scan.len() + 2 * terms.len() + 12;
+        let needed = file_bytes(scan.len(), terms.len());
         let lent = random.exact_length(needed);
         compare(
             &(&terms, &scan),

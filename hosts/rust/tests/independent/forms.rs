@@ -1,9 +1,7 @@
 //! Forms: their check, their truth tables, and their filters by counting levels.
 
-use super::{No, MOST_TERMS};
-
-/// The number of patterns: each offset from -4 to 4 is in or out.
-pub const PATTERNS: u16 = 512;
+use super::limits::{BYTE_BITS, MOST_TERMS, PATTERNS, PRESETS, REACH, TABLE_BYTES, WIDTH};
+use super::No;
 
 /// Whether every offset of `part` is one of `whole`.
 pub fn within(part: u16, whole: u16) -> bool {
@@ -44,22 +42,24 @@ pub fn least_patterns(function: impl Fn(u16) -> bool) -> Vec<u16> {
 
 /// The least pattern with value 1 that one more offset turns to 0.
 pub fn first_not_positive(function: impl Fn(u16) -> bool) -> Option<u16> {
-    (0..PATTERNS).find(|pattern| function(*pattern) && (0..9).any(|offset| !function(pattern | 1 << offset)))
+    (0..PATTERNS)
+        .find(|pattern| function(*pattern) && (0..WIDTH).any(|place| !function(pattern | 1 << place)))
 }
 
-/// The 64 bytes of the form's truth table.
+/// The bytes of the form's truth table.
 pub fn table(terms: &[u16]) -> Vec<u8> {
     let bit = |pattern: usize| holds(terms, pattern as u16) as u8;
-    (0..64).map(|byte| (0..8).map(|place| bit(8 * byte + place) << place).sum()).collect()
+    let byte = |index: usize| (0..BYTE_BITS).map(|place| bit(BYTE_BITS * index + place) << place).sum();
+    (0..TABLE_BYTES).map(byte).collect()
 }
 
 /// The form of a preset: its 8-bit table is over the offsets -1, 0, 1.
 pub fn preset(number: u64) -> Option<Vec<u16>> {
-    let tables =
+    let tables: [u8; PRESETS] =
         [0, 128, 136, 160, 168, 170, 192, 200, 204, 224, 232, 234, 236, 238, 240, 248, 250, 252, 254, 255];
-    let table: u8 = *tables.get(usize::try_from(number).ok()?)?;
-    // Bits 3, 4 and 5 of a pattern are the offsets -1, 0 and 1.
-    Some(least_patterns(|pattern| table >> (pattern >> 3 & 7) & 1 == 1))
+    let table = *tables.get(usize::try_from(number).ok()?)?;
+    // The three bits of a pattern from that of offset -1 on are the offsets -1, 0 and 1.
+    Some(least_patterns(|pattern| table >> (pattern >> (REACH - 1) & 0b111) & 1 == 1))
 }
 
 /// The filter of a form: at each sample the number of levels 1 to 65,535 whose cut makes the
@@ -69,13 +69,13 @@ pub fn filter(terms: &[u16], scan: &[u16]) -> Vec<u16> {
     (0..scan.len()).map(|x| levels(&function, &window(scan, x))).collect()
 }
 
-/// The samples at the offsets -4 to 4 of x, with the ends held.
-fn window(scan: &[u16], x: usize) -> [u16; 9] {
+/// The samples at every offset of x, with the ends held.
+fn window(scan: &[u16], x: usize) -> [u16; WIDTH] {
     let last = scan.len() - 1;
-    std::array::from_fn(|place| scan[(x + place).saturating_sub(4).min(last)])
+    std::array::from_fn(|place| scan[(x + place).saturating_sub(REACH as usize).min(last)])
 }
 
-fn levels(function: &[bool], window: &[u16; 9]) -> u16 {
+fn levels(function: &[bool], window: &[u16; WIDTH]) -> u16 {
     let mut tops = *window;
     tops.sort_unstable();
     let mut counted: u32 = 0;
@@ -91,6 +91,6 @@ fn levels(function: &[bool], window: &[u16; 9]) -> u16 {
 }
 
 /// The pattern of the samples that are at least the level.
-fn cut(window: &[u16; 9], level: u16) -> u16 {
+fn cut(window: &[u16; WIDTH], level: u16) -> u16 {
     window.iter().enumerate().map(|(place, sample)| ((*sample >= level) as u16) << place).sum()
 }

@@ -7,13 +7,13 @@
 
 pub mod files;
 pub mod forms;
+pub mod limits;
 pub mod recipes;
+
+use limits::{BYTE_BITS, MOST_SAMPLES, TABLE_BYTES};
 
 /// A refusal's number and place.
 pub type No = (u8, usize);
-
-pub const MOST_SAMPLES: usize = 16_384;
-pub const MOST_TERMS: usize = 126;
 
 pub fn compile(recipe: &[u8], lent: usize) -> Result<Vec<u16>, No> {
     let plan = recipes::judge(recipe)?;
@@ -48,10 +48,10 @@ pub fn root(terms: &[u16], scan: &[u16]) -> Result<usize, No> {
 }
 
 pub fn table_to_form(table: &[u8], lent: usize) -> Result<Vec<u16>, No> {
-    if table.len() != 64 {
+    if table.len() != TABLE_BYTES {
         return Err((13, table.len()));
     }
-    let value = |pattern: u16| table[pattern as usize / 8] >> (pattern % 8) & 1 == 1;
+    let value = |pattern: u16| table[pattern as usize / BYTE_BITS] >> (pattern as usize % BYTE_BITS) & 1 == 1;
     if let Some(pattern) = forms::first_not_positive(value) {
         return Err((12, pattern as usize));
     }
@@ -61,7 +61,7 @@ pub fn table_to_form(table: &[u8], lent: usize) -> Result<Vec<u16>, No> {
 /// The table; the call gives back the number of terms.
 pub fn form_to_table(terms: &[u16], lent: usize) -> Result<Vec<u8>, No> {
     forms::check(terms)?;
-    if lent != 64 {
+    if lent != TABLE_BYTES {
         return Err((13, lent));
     }
     Ok(forms::table(terms))

@@ -1,5 +1,6 @@
 //! Recipes: judged step by step into a tree, which is asked for a stretch of the endless signal.
 
+use super::limits::{LARGEST_SET, LAST_CODE, LONGEST_RECIPE, MOST_SIGNALS, REACH, STEP_BYTES};
 use super::No;
 use std::ops::RangeInclusive;
 
@@ -27,28 +28,28 @@ pub struct Fields {
 
 /// The offsets of a set, ascending.
 pub fn offsets(set: u16) -> Vec<i64> {
-    (-4..=4).filter(|d| set >> (d + 4) & 1 == 1).collect()
+    (-REACH..=REACH).filter(|d| set >> (d + REACH) & 1 == 1).collect()
 }
 
 /// Refusals 1 to 5, in their order, or the plan of the one signal left.
 pub fn judge(recipe: &[u8]) -> Result<Plan, No> {
-    if recipe.is_empty() || recipe.len() % 4 != 0 || recipe.len() > 128 {
+    if recipe.is_empty() || recipe.len() % STEP_BYTES != 0 || recipe.len() > LONGEST_RECIPE {
         return Err((1, recipe.len()));
     }
     let mut held: Vec<Held> = Vec::new();
-    for (index, bytes) in recipe.chunks(4).enumerate() {
+    for (index, bytes) in recipe.chunks(STEP_BYTES).enumerate() {
         let fields = Fields { code: bytes[0], rank: bytes[1], set: bytes[2] as u16 + 256 * bytes[3] as u16 };
         take_step(&mut held, fields).map_err(|number| (number, index))?;
     }
     match held.pop() {
         Some((plan, _, _)) if held.is_empty() => Ok(plan),
-        _ => Err((4, recipe.len() / 4)),
+        _ => Err((4, recipe.len() / STEP_BYTES)),
     }
 }
 
 /// One step on the signals held, or the number of its refusal.
 fn take_step(held: &mut Vec<Held>, fields: Fields) -> Result<(), u8> {
-    if fields.code > 8 {
+    if fields.code > LAST_CODE {
         return Err(2);
     }
     if !allowed(fields) {
@@ -59,22 +60,22 @@ fn take_step(held: &mut Vec<Held>, fields: Fields) -> Result<(), u8> {
         7 | 8 => 2,
         _ => 1,
     };
-    if held.len() < needed || fields.code == 0 && held.len() == 8 {
+    if held.len() < needed || fields.code == 0 && held.len() == MOST_SIGNALS {
         return Err(4);
     }
     let taken = held.split_off(held.len() - needed);
     let (low, high) = reach(fields, &taken.iter().map(|(_, low, high)| (*low, *high)).collect::<Vec<_>>());
-    if low < -4 || high > 4 {
+    if low < -REACH || high > REACH {
         return Err(5);
     }
     held.push((plan(fields, taken.into_iter().map(|(plan, _, _)| plan).collect()), low, high));
     Ok(())
 }
 
-/// Whether the fields are allowed for a code of 0 to 8.
+/// Whether the fields are allowed for a code that a step has.
 fn allowed(fields: Fields) -> bool {
     let size = offsets(fields.set).len();
-    let some_set = (1..=511).contains(&fields.set);
+    let some_set = (1..=LARGEST_SET).contains(&fields.set);
     match fields.code {
         0 | 7 | 8 => fields.rank == 0 && fields.set == 0,
         5 => some_set && (1..=size).contains(&(fields.rank as usize)),
@@ -174,8 +175,8 @@ pub fn run(plan: &Plan, scan: &[u16]) -> Vec<u16> {
 /// pattern's offsets. It never asks beyond them.
 pub fn holds(plan: &Plan, pattern: u16) -> bool {
     let signal = |x: i64| {
-        assert!((-4..=4).contains(&x), "a sound recipe reads only the offsets -4 to 4, not {x}");
-        pattern >> (x + 4) & 1
+        assert!((-REACH..=REACH).contains(&x), "a sound recipe reads only its offsets, not {x}");
+        pattern >> (x + REACH) & 1
     };
     values(plan, 0..=0, &signal) == [1]
 }

@@ -1,7 +1,15 @@
 //! Random and damaged inputs, from a small generator of our own so that a seed always gives the
 //! same ones.
 
-use crate::independent::{files, forms, recipes, MOST_SAMPLES};
+use crate::independent::limits::{
+    file_bytes, BYTE_BITS, COUNT_BYTES, DISTANCE_BYTES, LARGEST_SET, LAST_CODE, LONGEST_RECIPE, MARK,
+    MOST_SAMPLES, MOST_SIGNALS, MOST_STEPS, MOST_TERMS, PATTERNS, REACH, STEP_BYTES, TABLE_BYTES, TRAILER,
+    WIDTH, WORD_BYTES,
+};
+use crate::independent::{files, forms, recipes};
+
+/// The set {0}.
+const MIDDLE: u16 = 1 << REACH;
 
 /// SplitMix64: a counter whose every value is stirred.
 pub struct Random(u64);
@@ -68,7 +76,7 @@ impl Random {
     pub fn scan(&mut self) -> Vec<u16> {
         let samples = match self.below(300) {
             0..=5 => 0,
-            6 => self.one_of(&[MOST_SAMPLES - 1, MOST_SAMPLES, MOST_SAMPLES + 1, MOST_SAMPLES + 126]),
+            6 => self.one_of(&[MOST_SAMPLES - 1, MOST_SAMPLES, MOST_SAMPLES + 1, MOST_SAMPLES + MOST_TERMS]),
             7..=30 => self.between(41, 300),
             31..=100 => self.between(1, 4),
             _ => self.between(1, 40),
@@ -83,7 +91,7 @@ impl Random {
         let sample = |_| match kind {
             0 => self.below(4) as u16,
             1 => self.bits() as u16,
-            2 => self.one_of(&[0, 1, 2, 32_767, 32_768, 65_534, 65_535]),
+            2 => self.one_of(&[0, 1, 2, 32_767, 32_768, u16::MAX - 1, u16::MAX]),
             _ => base.saturating_add(self.below(20) as u16),
         };
         (0..samples).map(sample).collect()
@@ -95,18 +103,23 @@ impl Random {
     pub fn form(&mut self) -> Vec<u16> {
         let tries = self.one_of(&[0, 1, 1, 2, 3, 5, 8, 16, 40, 120]);
         // Sets of about one size seldom contain each other, so these forms are long.
-        let size = self.between(1, 8) as u32;
+        let size = self.between(1, WIDTH - 1) as u32;
         let drawn: Vec<u16> = (0..tries).map(|_| self.set_of_about(size)).collect();
         forms::least_patterns(|pattern| forms::holds(&drawn, pattern))
     }
 
     fn set_of_about(&mut self, size: u32) -> u16 {
         loop {
-            let set = self.below(512) as u16;
+            let set = self.set();
             if set.count_ones().abs_diff(size) <= 1 {
                 return set;
             }
         }
+    }
+
+    /// Any set of offsets.
+    fn set(&mut self) -> u16 {
+        self.below(PATTERNS as usize) as u16
     }
 
     /// A form, or one time in three a list with faults.
@@ -123,14 +136,17 @@ impl Random {
 
     fn damage_terms(&mut self, terms: &mut Vec<u16>) {
         let place = self.below(terms.len() + 1);
-        let any = self.below(512) as u16;
+        let any = self.set();
         match self.below(8) {
-            0 => terms.insert(place, self.one_of(&[512, 513, 1023, 1024, 65_535])),
+            0 => terms.insert(place, self.one_of(&[PATTERNS, PATTERNS + 1, 1023, 1024, u16::MAX])),
             1 => terms.insert(place, any),
             2 => terms.insert(0, 0),
-            3 => *terms = (0..self.between(100, 600)).map(|_| self.below(520) as u16).collect(),
-            4 => *terms = (0..self.between(120, 512) as u16).collect(),
-            _ if terms.is_empty() => terms.push(any | 512),
+            3 => {
+                *terms =
+                    (0..self.between(100, 600)).map(|_| self.below(PATTERNS as usize + 8) as u16).collect()
+            }
+            4 => *terms = (0..self.between(MOST_TERMS - 6, PATTERNS as usize) as u16).collect(),
+            _ if terms.is_empty() => terms.push(any | PATTERNS),
             5 => terms.insert(place, terms[place.min(terms.len() - 1)]),
             6 => {
                 let (one, other) = (self.below(terms.len()), self.below(terms.len()));
@@ -148,11 +164,11 @@ impl Random {
     pub fn table(&mut self) -> Vec<u8> {
         let mut table = forms::table(&self.form());
         match self.below(10) {
-            0 => return self.noise(&[64]),
-            1 => return vec![self.one_of(&[0, 1, 128, 255]); 64],
-            2 => table.truncate(self.below(64)),
-            3 => table.extend(vec![255; self.between(1, 70)]),
-            4 | 5 => table[self.below(64)] ^= 1 << self.below(8),
+            0 => return self.noise(&[TABLE_BYTES]),
+            1 => return vec![self.one_of(&[0, 1, 128, 255]); TABLE_BYTES],
+            2 => table.truncate(self.below(TABLE_BYTES)),
+            3 => table.extend(vec![255; self.between(1, TABLE_BYTES + 6)]),
+            4 | 5 => table[self.below(TABLE_BYTES)] ^= 1 << self.below(BYTE_BITS),
             _ => {}
         }
         table
@@ -170,7 +186,7 @@ impl Random {
     }
 
     fn sound_recipe(&mut self) -> Vec<u8> {
-        let most = self.one_of(&[1, 2, 2, 3, 3, 4, 6, 9, 15, 32]);
+        let most = self.one_of(&[1, 2, 2, 3, 3, 4, 6, 9, 15, MOST_STEPS]);
         let mut recipe = Vec::new();
         let mut reaches: Vec<(i64, i64)> = Vec::new();
         for step in 0..most {
@@ -181,8 +197,8 @@ impl Random {
                 1 if free && self.once_in(4) => 0,
                 1 => self.between(1, 6),
                 _ if !free => self.between(7, 8),
-                8 => self.between(1, 8),
-                _ => self.between(0, 8),
+                MOST_SIGNALS => self.between(1, LAST_CODE as usize),
+                _ => self.between(0, LAST_CODE as usize),
             };
             self.add_step(&mut recipe, &mut reaches, code as u8);
         }
@@ -204,13 +220,20 @@ impl Random {
         recipe.extend([fields.code, fields.rank, low, high]);
     }
 
-    /// Fields that keep the reach in -4 to 4: after some tries the set {0}, which moves nothing.
+    /// Fields that keep the reach in its bounds: after some tries the set {0}, which moves nothing.
     fn fields_in_reach(&mut self, code: u8, taken: &[(i64, i64)]) -> recipes::Fields {
         for _ in 0..8 {
-            let window = self.one_of(&[511, 511, 0b001_111_100, 0b000_111_000, 0b000_110_000, 0b100_000_001]);
-            let mut set = self.below(512) as u16 & window;
+            let window = self.one_of(&[
+                LARGEST_SET,
+                LARGEST_SET,
+                0b001_111_100,
+                0b000_111_000,
+                0b000_110_000,
+                0b100_000_001,
+            ]);
+            let mut set = self.set() & window;
             if code == 6 && set.count_ones() % 2 == 0 {
-                set ^= 16;
+                set ^= MIDDLE;
             }
             if set == 0 {
                 continue;
@@ -218,29 +241,35 @@ impl Random {
             let rank = if code == 5 { self.between(1, set.count_ones() as usize) as u8 } else { 0 };
             let fields = recipes::Fields { code, rank, set };
             let (low, high) = recipes::reach(fields, taken);
-            if low >= -4 && high <= 4 {
+            if low >= -REACH && high <= REACH {
                 return fields;
             }
         }
-        recipes::Fields { code, rank: (code == 5) as u8, set: 16 }
+        recipes::Fields { code, rank: (code == 5) as u8, set: MIDDLE }
     }
 
     fn damage_recipe(&mut self, recipe: &mut Vec<u8>) {
-        let step = 4 * self.below(recipe.len() / 4);
+        let step = STEP_BYTES * self.below(recipe.len() / STEP_BYTES);
+        let longest = LONGEST_RECIPE;
         match self.below(14) {
             0 => recipe.truncate(self.below(recipe.len())),
             1 => recipe.extend(self.noise(&[1])),
-            2 => *recipe = self.noise(&[0, 3, 4, 5, 8, 124, 127, 128, 129, 132, 136, 200]),
-            3 => recipe.resize(self.one_of(&[128, 129, 131, 132, 256]), 0),
-            4 => drop(recipe.drain(step..step + 4)),
-            5 => drop(recipe.splice(step..step, [0; 4])),
-            6 => drop(recipe.splice(0..0, vec![0; 4 * self.between(1, 9)])),
-            7 => recipe[step] = self.one_of(&[9, 10, 128, 255, 16, 8]),
-            8 => recipe[step] = self.below(9) as u8,
-            9 => recipe[step + 1] = self.between(0, 10) as u8,
-            10 | 11 => recipe[step + 2..step + 4].copy_from_slice(&(self.below(512) as u16).to_le_bytes()),
-            12 => recipe[step + 2] ^= 1 << self.below(8),
-            _ => recipe[step + 3] ^= 1 << self.below(8),
+            2 => {
+                let about = [longest - 4, longest - 1, longest, longest + 1, longest + 4, longest + 8];
+                *recipe = self.noise(&[&[0, 3, 4, 5, 8], &about[..], &[200]].concat())
+            }
+            3 => {
+                recipe.resize(self.one_of(&[longest, longest + 1, longest + 3, longest + 4, 2 * longest]), 0)
+            }
+            4 => drop(recipe.drain(step..step + STEP_BYTES)),
+            5 => drop(recipe.splice(step..step, [0; STEP_BYTES])),
+            6 => drop(recipe.splice(0..0, vec![0; STEP_BYTES * self.between(1, MOST_SIGNALS + 1)])),
+            7 => recipe[step] = self.one_of(&[LAST_CODE + 1, LAST_CODE + 2, 128, 255, 16, LAST_CODE]),
+            8 => recipe[step] = self.between(0, LAST_CODE as usize) as u8,
+            9 => recipe[step + 1] = self.between(0, WIDTH + 1) as u8,
+            10 | 11 => recipe[step + 2..step + STEP_BYTES].copy_from_slice(&self.set().to_le_bytes()),
+            12 => recipe[step + 2] ^= 1 << self.below(BYTE_BITS),
+            _ => recipe[step + 3] ^= 1 << self.below(BYTE_BITS),
         }
     }
 
@@ -257,36 +286,39 @@ impl Random {
 
     fn damage_file(&mut self, file: &mut Vec<u8>) {
         let length = file.len();
-        let in_trailer = length - 12 + self.below(12);
+        let in_trailer = length - TRAILER + self.below(TRAILER);
         match self.below(10) {
             0 => file.truncate(self.below(length)),
             1 => drop(file.drain(..self.between(1, length))),
             2 => file.extend(self.noise(&[1])),
             3 => drop(file.splice(0..0, vec![7; self.between(1, 4)])),
-            4 => *file = self.noise(&[0, 1, 11, 12, 13, 14, 40]),
+            4 => *file = self.noise(&[0, 1, TRAILER - 1, TRAILER, TRAILER + 1, TRAILER + 2, 40]),
             5 => file[in_trailer] = file[in_trailer].wrapping_add(self.one_of(&[1, 2, 254, 255])),
-            6 => file[in_trailer] ^= 1 << self.below(8),
+            6 => file[in_trailer] ^= 1 << self.below(BYTE_BITS),
             7 => *file = self.file_at_its_limit(),
             8 => {
                 // The trailer follows the longer file, so only an odd number of bytes is at fault.
                 file.splice(0..0, vec![7; self.between(1, 4)]);
                 let length = file.len() as u32;
-                file.splice(file.len() - 12..file.len() - 8, length.to_le_bytes());
+                let trailer = file.len() - TRAILER;
+                file.splice(trailer..trailer + DISTANCE_BYTES, length.to_le_bytes());
             }
             _ => {
                 // The term distance follows the number of terms, so the layout may still be sound.
-                let fitting = self.below(length / 2) as u32;
-                let terms = self.one_of(&[fitting, fitting, 32_768, 65_535]);
-                file[length - 8..length - 4].copy_from_slice(&(12 + 2 * terms).to_le_bytes());
-                file[length - 4..length - 2].copy_from_slice(&(terms as u16).to_le_bytes());
+                let fitting = self.below(length / WORD_BYTES);
+                let terms = self.one_of(&[fitting, fitting, 32_768, u16::MAX as usize]);
+                let count = length - MARK.len() - COUNT_BYTES;
+                file[count - DISTANCE_BYTES..count]
+                    .copy_from_slice(&(file_bytes(0, terms) as u32).to_le_bytes());
+                file[count..count + COUNT_BYTES].copy_from_slice(&(terms as u16).to_le_bytes());
             }
         }
     }
 
     /// Bytes about the longest file, as samples or as terms.
     fn file_at_its_limit(&mut self) -> Vec<u8> {
-        let numbers = 16_510 + self.below(3) - 1;
-        let terms = self.one_of(&[0, 1, 126, 127, numbers - 1, numbers]);
+        let numbers = MOST_SAMPLES + MOST_TERMS + self.below(3) - 1;
+        let terms = self.one_of(&[0, 1, MOST_TERMS, MOST_TERMS + 1, numbers - 1, numbers]);
         let ascending: Vec<u16> = (0..terms as u16).collect();
         files::lay_out(&self.samples(numbers - terms), &ascending)
     }
