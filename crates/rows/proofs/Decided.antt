@@ -18,8 +18,8 @@ pub pair-decided : (high : Bool) (other row new new′ : List ℕ) → new ≡ p
 pair-decided high other row new new′ p q = p ∙ sym q
 
 -- a change leaves the row changed and the room as it was read, or both as they were
-pub change-row-decided : (can : Bool) (changed row read room new new′ fresh fresh′ : List ℕ)
-    → (new ≡ cond can changed row) × (fresh ≡ cond can read room)
-    → (new′ ≡ cond can changed row) × (fresh′ ≡ cond can read room)
+pub change-row-decided : (can : Bool) (result row read room new new′ fresh fresh′ : List ℕ)
+    → (new ≡ cond can result row) × (fresh ≡ cond can read room)
+    → (new′ ≡ cond can result row) × (fresh′ ≡ cond can read room)
     → (new ≡ new′) × (fresh ≡ fresh′)
-change-row-decided can changed row read room new new′ fresh fresh′ p q = (p .0 ∙ sym (q .0), p .1 ∙ sym (q .1))
+change-row-decided can result row read room new new′ fresh fresh′ p q = (p .0 ∙ sym (q .0), p .1 ∙ sym (q .1))

@@ -24,7 +24,7 @@ pub record Roomy (row room : List ℕ) (B : ℕ) : Type 0 where
 
 -- a row is changed, and the room has what was read last, widened
 pub record Applied (by : Change) (l r : ℕ) (row row′ room′ : List ℕ) : Type 0 where
-  pub changed : row′ ≡ afterChange by l r row
+  pub result : row′ ≡ afterChange by l r row
   pub read : room′ ≡ widened opening l r (lastRead by l r row)
 
 -- the shift at which the column c is read where the column centre stands for offset 0: c further on, or mirrored, c further back
