@@ -2,13 +2,14 @@
 //
 // No function has a `requires`, and nothing is assumed. Each contract is an equation for the result: it allows one.
 use limits::BYTE_BITS;
+use limits::PATTERNS;
 ghost use mathlib.Core.Path.{_≡_};
 ghost use mathlib.Core.Bool.{false};
 ghost use Prim.Native.Nat.{_+_, _*_, _≤_};
 ghost use lib.ListN.{getD};
-ghost use Rattle.limits.specs.Limits.{byteBits};
+ghost use Rattle.limits.specs.Limits.{width, byteBits};
 ghost use Rattle.theory.specs.Lists.{bit as bitOf};
-ghost use Rattle.theory.specs.Sets.{has as hasPosition, within, gather};
+ghost use Rattle.theory.specs.Sets.{has as hasPosition, isSet, within, gather};
 ghost use Rattle.theory.specs.Orders.{counts, larger as largerOf, smaller as smallerOf};
 
 // A usize has so many bits.
@@ -22,6 +23,13 @@ pub fn has(set: usize, i: usize) -> bool
         return (set >> i) % 2 == 1;
     }
     false
+}
+
+// Whether a number is a set of the window's positions, with some: 1 to 511.
+pub fn is_set(set: u16) -> bool
+    ensures { λ r. ⌜ r ≡ isSet width set ⌝ }
+{
+    (0 < set) & ((set as usize) < PATTERNS)
 }
 
 // Whether every position of a is one of b.

@@ -17,7 +17,7 @@ use Rattle.theory.specs.Sets.{has}
 use Rattle.theory.specs.Orders.{counts}
 use Rattle.theory.specs.Tables.{tableOf}
 use Rattle.theory.specs.Signals.{held, endless, window, wide}
-use Rattle.theory.specs.Plans.{meaning}
+use Rattle.theory.proofs.Plans.{meaning}
 use Rattle.theory.proofs.Lists.{length-tab, getD-tab, tab-cong}
 use Rattle.theory.proofs.Sets.{gather-cong}
 use Rattle.theory.proofs.Fills.{Filled}
@@ -35,7 +35,7 @@ use Rattle.recipes.proofs.Accepted.{plan-fits}
 use Rattle.rows.proofs.Parts.{mid-length}
 use Rattle.runner.specs.Run.{ran, recipeRunChecked, Run}
 use Rattle.runner.proofs.Pieces.{filled-piece}
-use Rattle.compiler.specs.Patterns.{byteSamples, batchBytes, batchSamples, sampleOf, sampleAt, patternScan, middleOf, Batch}
+use Rattle.compiler.specs.Private.{byteSamples, batchBytes, batchSamples, sampleOf, sampleAt, patternScan, middleOf, Batch}
 use Rattle.compiler.proofs.Patterns.{showingAll, middle-truth}
 
 -- ---- an accepted run fills its slice

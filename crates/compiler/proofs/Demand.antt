@@ -8,7 +8,7 @@ use lib.ListN.{length}
 use Rattle.limits.specs.Limits.{width}
 use Rattle.theory.specs.Forms.{formOf}
 use Rattle.theory.specs.Signals.{Ends, Scan, cleaned, filteredAt, window}
-use Rattle.theory.specs.Plans.{truth}
+use Rattle.theory.proofs.Plans.{truth}
 use Rattle.theory.proofs.Lists.{tab-cong}
 use Rattle.theory.proofs.Canon.{form-valid, form-cong}
 use Rattle.theory.proofs.Demands.{plan-filter, same-form-agree, agree-same-form}

@@ -13,7 +13,7 @@ use Rattle.theory.specs.Lists.{bit, tab}
 use Rattle.theory.specs.Sets.{has}
 use Rattle.theory.specs.Orders.{counts}
 use Rattle.theory.specs.Signals.{Ends, endless, Window, wide, seen}
-use Rattle.theory.specs.Plans.{Plan, meaning, truth}
+use Rattle.theory.proofs.Plans.{Plan, meaning, truth}
 use Rattle.theory.proofs.Lists.{length-tab, getD-tab}
 use Rattle.theory.proofs.Differences.{sub-high}
 use Rattle.theory.proofs.Orders.{counts-lawful}

@@ -1,3 +1,3 @@
--- What the contract of compiling cites, and what those of its private parts cite.
+-- What the contract of compiling cites, and what private contracts alone cite.
 pub mod Compile
-pub mod Patterns
+pub mod Private

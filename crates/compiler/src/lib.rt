@@ -19,7 +19,7 @@ ghost use Rattle.theory.specs.Tables.{tableOf};
 ghost use Rattle.refusals.specs.declared.Checked.the-variants.{Fine};
 ghost use Rattle.recipes.specs.Judge.{recipeChecked};
 ghost use Rattle.recipes.specs.Meaning.{truthOf};
-ghost use Rattle.compiler.specs.Patterns.{byteSamples, batchBytes, sampleOf, patternScan, middleOf, Batch};
+ghost use Rattle.compiler.specs.Private.{byteSamples, batchBytes, sampleOf, patternScan, middleOf, Batch};
 ghost use Rattle.compiler.specs.Compile.{Compile};
 
 // The samples that show the patterns of a byte of the truth table.

@@ -29,7 +29,7 @@ use Rattle.reports.specs.declared.CountAnswer.{CountAnswer}
 use Rattle.reports.specs.declared.CountAnswer.the-variants as count
 use Rattle.reports.specs.Counts.{Count, countsOf}
 use Rattle.exports.specs.Told.{Told, given, refused}
-use Rattle.exports.specs.Parts.{sampleIn, samplesIn, termsIn, countedIn, fiveIn}
+use Rattle.exports.specs.Private.{sampleIn, samplesIn, termsIn, countedIn, fiveIn}
 
 pub told : {P : Answer → Type 0} {answer : Answer} {code value : ℕ} → P answer → Told (λ a. a ≡ answer) code value → Told P code value
 told {P = P} p (given z e) = given z (subst P (sym e) p)

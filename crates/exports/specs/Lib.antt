@@ -1,3 +1,3 @@
--- What the contracts of the C interface cite beside the calls' own promises, and what those of its private parts cite.
+-- What the contracts of the C interface cite beside the calls' own promises, and what private contracts alone cite.
 pub mod Told
-pub mod Parts
+pub mod Private

@@ -22,7 +22,7 @@ ghost use Rattle.files.specs.Layout.{countsFamily, fileTerms, fileSamples};
 ghost use Rattle.files.specs.Files.{Write, fileChecked, readChecked};
 ghost use Rattle.reports.specs.Counts.{countsOf};
 ghost use Rattle.exports.specs.Told.{Told};
-ghost use Rattle.exports.specs.Parts.{sampleIn, samplesIn, termsIn, countedIn, fiveIn};
+ghost use Rattle.exports.specs.Private.{sampleIn, samplesIn, termsIn, countedIn, fiveIn};
 
 // ---- what C is told
 

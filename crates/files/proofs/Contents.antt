@@ -11,12 +11,12 @@ use lib.Seq.{take-all}
 use Rattle.limits.specs.Limits.{wordBytes, trailerBytes, mostTerms}
 use Rattle.theory.proofs.Slices.{parts}
 use Rattle.files.specs.declared.Family.{Family}
-use Rattle.files.specs.Bytes.{longBytes, twoBytes, fourBytes, inWords, wordAt, longAt}
+use Rattle.files.specs.Bytes.{twoBytes, fourBytes, inWords, wordAt, longAt}
 use Rattle.files.specs.Layout.{countsFamily}
 use Rattle.files.specs.Layout.{samplesBack, termsBack, termCount, termsDistance, fileTerms}
 use Rattle.files.specs.Layout.{fileLength, sampleCount, trailer, fileOf, fileSamples, countsFile}
 use Rattle.files.proofs.Layouts.{length-most, Laid, whole, first-term, terms-counted, samples-counted, samples-lie}
-use Rattle.files.proofs.Stores.{length-in-words, length-file}
+use Rattle.files.proofs.Stores.{longBytes, length-in-words, length-file}
 use Rattle.files.proofs.Words.{Bytes, word-behind, long-behind, words-back, word-bytes, long-bytes, words-bytes}
 
 -- ---- the file of a form and of samples that take the family's bytes

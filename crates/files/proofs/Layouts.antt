@@ -18,7 +18,8 @@ use Rattle.refusals.proofs.Checks.{refuse-no, or-else-fine}
 use Rattle.files.specs.declared.Family.{Family}
 use Rattle.files.specs.Bytes.{wordAt, wordsFrom}
 use Rattle.files.specs.Layout.{countsFamily, samplesBack, termsBack, termCount, termsDistance, pointsAtTerms, fileTerms}
-use Rattle.files.specs.Layout.{fileLength, Usable, sized, marked, pointsAtSamples, sampleCount, fileSamples}
+use Rattle.files.specs.Private.{Usable}
+use Rattle.files.specs.Layout.{fileLength, sized, marked, pointsAtSamples, sampleCount, fileSamples}
 use Rattle.files.specs.Files.{layoutChecked}
 
 pub counts-usable : Usable countsFamily

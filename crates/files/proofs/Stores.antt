@@ -9,8 +9,12 @@ use lib.Seq.{sets, length-sets}
 use Rattle.limits.specs.Limits.{wordBytes, trailerBytes}
 use Rattle.theory.proofs.Slices.{sets-next, sets-three, sets-whole}
 use Rattle.files.specs.declared.Family.{Family}
-use Rattle.files.specs.Bytes.{longBytes, twoBytes, fourBytes, inWords}
+use Rattle.files.specs.Bytes.{twoBytes, fourBytes, inWords}
 use Rattle.files.specs.Layout.{termsDistance, fileLength, trailer, fileOf}
+
+-- a distance in the trailer is a number of two words
+abbrev pub longBytes : ℕ
+longBytes = 2 * wordBytes
 
 pub length-in-words : (xs : List ℕ) → length (inWords xs) ≡ wordBytes * length xs
 unfolding inWords twoBytes

@@ -5,10 +5,6 @@ use lib.ListN.{getD}
 use Rattle.limits.specs.Limits.{wordBytes}
 use Rattle.theory.specs.Lists.{tab}
 
--- a distance in the trailer is a number of two words
-abbrev pub longBytes : ℕ
-longBytes = 2 * wordBytes
-
 -- ---- what is written
 
 -- a number as two bytes, low byte first

@@ -1,12 +1,12 @@
 -- The scan file, over its family: samples, terms, and a trailer that points back from the file's end.
-use Prim.Native.Nat.{ℕ, _+_, _-_, _*_, _/_, _%_, _^_, _<_}
+use Prim.Native.Nat.{ℕ, _+_, _-_, _*_, _/_, _%_}
 use mathlib.Core.Bool.{Bool, _&&_}
 use mathlib.Core.List.{List, _++_}
 use lib.Dec.{leb, eqb}
 use lib.ListN.{length}
 use Rattle.limits.specs.Limits.{wordBytes, trailerBytes, mostSamples, mostTerms}
 use Rattle.files.specs.declared.Family.{Family}
-use Rattle.files.specs.Bytes.{longBytes, twoBytes, fourBytes, inWords, wordAt, longAt, wordsFrom}
+use Rattle.files.specs.Bytes.{twoBytes, fourBytes, inWords, wordAt, longAt, wordsFrom}
 
 -- scans of counts: two bytes a sample, and the mark 53 46 hex, low byte first
 abbrev pub countsFamily : Family
@@ -20,7 +20,7 @@ samplesBack f = longAt f (length f - trailerBytes)
 
 -- the distance from the file's end to the first term
 unfoldable pub termsBack : List ℕ → ℕ
-termsBack f = longAt f (length f - (trailerBytes - longBytes))
+termsBack f = longAt f (length f - (trailerBytes - 2 * wordBytes))
 
 -- the number of terms
 unfoldable pub termCount : List ℕ → ℕ
@@ -42,11 +42,6 @@ module _ (family : Family) where
   -- the length of a file of so many samples and terms
   unfoldable pub fileLength : ℕ → ℕ → ℕ
   fileLength samples terms = family .bytes * samples + termsDistance terms
-
-  -- samples take room, and a file's length is a number of four bytes
-  pub record Usable : Type 0 where
-    pub wide : 0 < family .bytes
-    pub low : fileLength (family .most) mostTerms < 2 ^ 32
 
   -- ---- laid out well: these conditions, tested in this order
 

@@ -23,7 +23,8 @@ ghost use Rattle.refusals.specs.declared.Checked.the-variants.{Fine};
 ghost use Rattle.forms.specs.Check.{formChecked};
 ghost use Rattle.files.specs.Bytes.{twoBytes, fourBytes, inWords, wordAt, longAt, wordsFrom};
 ghost use Rattle.files.specs.Layout.{countsFamily, termsBack, termCount, termsDistance, pointsAtTerms, fileTerms};
-ghost use Rattle.files.specs.Layout.{fileLength, Usable, sized, pointsAtSamples, sampleCount, trailer, countsFile};
+ghost use Rattle.files.specs.Private.{Usable};
+ghost use Rattle.files.specs.Layout.{fileLength, sized, pointsAtSamples, sampleCount, trailer, countsFile};
 ghost use Rattle.files.specs.Files.{layoutChecked, fileChecked, readChecked, writeChecked, Read, Write};
 
 // What a read answers: how many samples and terms the file has, or why it says no.

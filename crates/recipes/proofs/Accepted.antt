@@ -2,20 +2,20 @@
 -- fits the window.
 -- Assumes nothing.
 use mathlib.Core.Path.{_≡_, refl, ap, subst}
-use mathlib.Core.Bool.{true, false, cond}
+use mathlib.Core.Bool.{Bool, true, false, cond}
 use mathlib.Core.List.{List, [], _∷_, map}
 use mathlib.Core.Logic.{_⊎_, inl, inr}
 use mathlib.Core.Option.{Option, none, some, bind}
 use Prim.Native.Nat.{ℕ, zero, suc, _+_, _-_, _/_, _≤_, _<_}
 use native.Mathlib.Omega.{arith}
 use lib.Dec.{ltb, eqb}
-use lib.ListN.{length}
+use lib.ListN.{length, getD}
 use lib.IntN.{negℤ, pos}
 use lib.Signed.{leZ}
 use borrow.Author.Tests.{ltb-true, ne-eqb}
 use Rattle.limits.specs.Limits.{reach, stepBytes, mostSignals}
 use Rattle.theory.specs.Signals.{window}
-use Rattle.theory.specs.Plans.{Plan, lo, hi}
+use Rattle.theory.proofs.Plans.{Plan, hi}
 use Rattle.theory.proofs.Tests.{which, and-left, and-right}
 use Rattle.theory.proofs.Truth.{Fits}
 use Rattle.refusals.specs.declared.Refusal.{Refusal}
@@ -28,11 +28,12 @@ use Rattle.recipes.specs.declared.Decoded.the-variants.{Good, Bad}
 use Rattle.recipes.specs.declared.Reach.{Reach}
 use Rattle.recipes.specs.Steps.{stepAt}
 use Rattle.recipes.specs.Machine.{added, replaced, joined, act, reaches}
-use Rattle.recipes.specs.Judge.{isNear, inReach, lastIn, onward, stepped, judgedFrom, judged, badLength, recipeChecked}
-use Rattle.recipes.specs.Meaning.{theOne, done, run, made}
+use Rattle.recipes.specs.Judge.{inReach, onward, stepped, judgedFrom, badLength, recipeChecked}
+use Rattle.recipes.specs.Private.{isNear, judged}
+use Rattle.recipes.specs.Meaning.{done, run, made}
 use Rattle.recipes.proofs.Decodes.{Sane, step-sane}
 use Rattle.recipes.proofs.Plans.{plans, fold, folds, planOf, act-fold}
-use Rattle.recipes.proofs.Reaches.{fold-reaches}
+use Rattle.recipes.proofs.Reaches.{in-near, fold-reaches}
 
 -- what is refused is not fine
 never : {X : Type 0} {why : Refusal} → Refused why ≡ Fine → X
@@ -41,6 +42,10 @@ never h = let z : _≡_ {A = ℕ} 0 1 = cc in absurd (omega arith)
 -- the reaches of the plans held
 abbrev pub reachesOf : List Plan → List Reach
 reachesOf st = map (fold reaches) st
+
+-- the last signal held is in reach
+abbrev lastIn : List Reach → Bool
+lastIn st = inReach (getD st 0 (reaches .the-scan))
 
 -- ---- one step that is accepted
 
@@ -103,13 +108,10 @@ AllFit [] = Unit {0}
 AllFit (e ∷ st) = Fits window e × AllFit st
 
 reach-fits : (e : Plan) → inReach (fold reaches e) ≡ true → Fits window e
-unfolding inReach isNear window
+unfolding isNear window
 reach-fits e h =
-    let t = rw (fold-reaches e) at h in
-    record {
-      left-ok = and-left _ _ (and-left _ _ t);
-      right-ok = and-right (leZ (negℤ (pos reach)) (hi e)) _ (and-right (isNear (lo e)) _ t);
-    }
+    let t = rw (fold-reaches e) at (in-near (fold reaches e) h) in
+    record { left-ok = and-left _ _ (t .0); right-ok = and-right (leZ (negℤ (pos reach)) (hi e)) _ (t .1) }
 
 -- a step leaves the plans below the last as they were, and no more than eight
 abbrev Kept : Option (List Plan) → Type 0
@@ -156,7 +158,7 @@ pub record Underway (r : List ℕ) (m i : ℕ) (st : List Plan) (e : Plan) : Typ
 
 -- a recipe that is accepted leaves its plan
 pub accepted-start : (r : List ℕ) → recipeChecked r ≡ Fine → Underway r (length r / stepBytes) 0 [] (planOf r)
-unfolding recipeChecked judged planOf made theOne
+unfolding recipeChecked judged planOf made
 accepted-start r h = go (which (badLength (length r))) h
   where
     begin : judged r ≡ Fine → Underway r (length r / stepBytes) 0 [] (planOf r)
@@ -180,7 +182,7 @@ pub record Advanced (r : List ℕ) (m i : ℕ) (st : List Plan) (e : Plan) : Typ
   pub rest : Underway r m (i + 1) after e
 
 accepted-step : (r : List ℕ) (m i : ℕ) (st : List Plan) (e : Plan) → Underway r (suc m) i st e → Advanced r m i st e
-unfolding run done bind lastIn
+unfolding run done bind
 accepted-step r m i st e u =
     let a = fine-step r m i st (u .fine) in
     let k = fits (a .after) (subst Kept (a .acted) (act-kept (a .step) st (u .fit) (u .few))) (a .last) in

@@ -12,9 +12,9 @@ use lib.Count.{ones}
 use lib.Dec.{leb, eqb}
 use lib.ListN.{length, List·getD-eq-default}
 use borrow.Author.Tests.{leb-true, eqb-true, eqb-false, ne-eqb}
-use Rattle.limits.specs.Limits.{patterns, stepBytes}
+use Rattle.limits.specs.Limits.{width, stepBytes}
 use Rattle.theory.specs.Lists.{from, bit}
-use Rattle.theory.specs.Sets.{has, gather, positions}
+use Rattle.theory.specs.Sets.{has, isSet, gather, positions}
 use Rattle.theory.specs.Signals.{window, size}
 use Rattle.theory.proofs.Tests.{which, and-left, and-right, and-true}
 use Rattle.theory.proofs.Lists.{keep-cong, from-at}
@@ -25,12 +25,12 @@ use Rattle.recipes.specs.declared.Step.{Step}
 use Rattle.recipes.specs.declared.Step.the-variants.{Signal, Erode, Dilate, Open, Close, Rank, Median, Larger, Smaller}
 use Rattle.recipes.specs.declared.Decoded.{Decoded}
 use Rattle.recipes.specs.declared.Decoded.the-variants.{Good, Bad}
-use Rattle.recipes.specs.Steps.{isSet, noFields, setAlone, rankFits, oddSet, allowed, decodedOf, stepAt}
-use Rattle.recipes.specs.Parts.{changeOf, joinOf}
+use Rattle.recipes.specs.Steps.{noFields, setAlone, rankFits, oddSet, allowed, decodedOf, stepAt}
+use Rattle.recipes.specs.Private.{changeOf, joinOf}
 
 -- a set of offsets, with some
 abbrev pub IsSet : ℕ → Type 0
-IsSet B = (1 ≤ B) × (B < patterns)
+IsSet B = isSet width B ≡ true
 
 -- what is so of each step that is decoded: its set is one of offsets, its rank 1 to the set's size, and a median's size is odd
 abbrev pub Sane : Step → Type 0
@@ -60,17 +60,14 @@ row-sane : (b : Bool) {x y : Decoded} → Promised x → Promised y → Promised
 row-sane true p q = p
 row-sane false p q = q
 
-set-sane : (B : ℕ) → isSet B ≡ true → IsSet B
-set-sane B e = (leb-true 1 B (and-left _ _ e), omega (arith, leb-true B (patterns - 1) (and-right (leb 1 B) _ e)))
-
 alone-sane : (k B : ℕ) → setAlone k B ≡ true → IsSet B
-alone-sane k B e = set-sane B (and-right (eqb k 0) _ e)
+alone-sane k B e = and-right (eqb k 0) _ e
 
 rank-sane : (k B : ℕ) → rankFits k B ≡ true → Sane (Rank k B)
 unfolding rankFits
 rank-sane k B e =
-    let r = and-right (isSet B) _ e in
-    (set-sane B (and-left _ _ e), leb-true 1 k (and-left _ _ r), leb-true k (size window B) (and-right (leb 1 k) _ r))
+    let r = and-right (isSet width B) _ e in
+    (and-left _ _ e, leb-true 1 k (and-left _ _ r), leb-true k (size window B) (and-right (leb 1 k) _ r))
 
 median-sane : (k B : ℕ) → oddSet k B ≡ true → Sane (Median B)
 unfolding oddSet

@@ -3,23 +3,23 @@
 use mathlib.Core.Path.{_≡_, refl, ap, ap₂, _∙_}
 use mathlib.Core.Bool.{Bool, true, false, cond}
 use mathlib.Core.List.{List, [], _∷_, map}
-use mathlib.Core.Option.{Option, none, some, bind}
+use mathlib.Core.Option.{Option, none, some, bind, Option·getD}
 use Prim.Native.Nat.{ℕ, zero, suc, _+_, _/_}
 use lib.Dec.{ltb}
 use lib.IntN.{ℤ, pos, _+ℤ_}
-use lib.ListN.{length, length-map}
+use lib.ListN.{length, getD, length-map}
 use Rattle.limits.specs.Limits.{stepBytes, mostSignals}
 use Rattle.theory.specs.Orders.{Order, larger, smaller, counts, bools}
 use Rattle.theory.specs.Ranks.{pick}
 use Rattle.theory.specs.Signals.{Ends, endless, window, spread}
-use Rattle.theory.specs.Plans.{Plan, scan, near, larger-of, smaller-of, meaning, truth}
+use Rattle.theory.proofs.Plans.{Plan, scan, near, larger-of, smaller-of, meaning, truth}
 use Rattle.recipes.specs.declared.Step.{Step}
 use Rattle.recipes.specs.declared.Step.the-variants.{Signal, Erode, Dilate, Open, Close, Rank, Median, Larger, Smaller}
 use Rattle.recipes.specs.declared.Decoded.{Decoded}
 use Rattle.recipes.specs.declared.Decoded.the-variants.{Good, Bad}
 use Rattle.recipes.specs.Steps.{stepAt}
 use Rattle.recipes.specs.Machine.{Machine, added, replaced, joined, eroded, dilated, rankedBy, act, signals}
-use Rattle.recipes.specs.Meaning.{theOne, done, run, made, valueAt, truthOf}
+use Rattle.recipes.specs.Meaning.{done, run, made, valueAt, truthOf}
 
 -- the machine whose signals are plans
 unfoldable pub plans : Machine Plan
@@ -35,6 +35,10 @@ fold M (smaller-of a b) = M .the-smaller (fold M a) (fold M b)
 -- the plan that a recipe's steps leave
 unfoldable pub planOf : List ℕ → Plan
 planOf r = made plans r
+
+-- the last signal held; d where none is
+abbrev pub theLast : {S : Type 0} → S → Option (List S) → S
+theLast d o = getD (Option·getD o []) 0 d
 
 -- ---- a machine that does the steps holds what it makes of the plans
 
@@ -96,17 +100,16 @@ module _ {S : Type 0} (M : Machine S) where
       ap (λ (o : Option (List S)). bind o (run M r m (i + 1))) (done-fold (stepAt r i) st)
       ∙ bind-fold (done plans (stepAt r i) st) (run M r m (i + 1)) (run plans r m (i + 1)) (run-fold r m (i + 1))
 
-  one-fold : (o : Option (List Plan)) → theOne (M .the-scan) (folds M o) ≡ fold M (theOne scan o)
-  unfolding theOne folds fold
-  one-fold none = refl
-  one-fold (some []) = refl
-  one-fold (some (e ∷ [])) = refl
-  one-fold (some (e ∷ d ∷ st)) = refl
+  last-fold : (o : Option (List Plan)) → theLast (M .the-scan) (folds M o) ≡ fold M (theLast scan o)
+  unfolding folds fold
+  last-fold none = refl
+  last-fold (some []) = refl
+  last-fold (some (e ∷ st)) = refl
 
   -- what a recipe leaves on any machine is what the machine makes of the recipe's plan
   pub made-plan : (r : List ℕ) → made M r ≡ fold M (planOf r)
   unfolding made planOf plans
-  made-plan r = ap (theOne (M .the-scan)) (run-fold r (length r / stepBytes) 0 []) ∙ one-fold (run plans r (length r / stepBytes) 0 [])
+  made-plan r = ap (theLast (M .the-scan)) (run-fold r (length r / stepBytes) 0 []) ∙ last-fold (run plans r (length r / stepBytes) 0 [])
 
 -- ---- endless signals
 

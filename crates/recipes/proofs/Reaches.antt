@@ -1,26 +1,27 @@
 -- The machine on reaches: a plan's reach is that of the offsets that it reads, and each step leaves the reach of document 01's column.
 -- Assumes nothing.
 use mathlib.Core.Path.{_≡_, refl, sym, ap, ap₂, _∙_}
-use mathlib.Core.Bool.{true}
+use mathlib.Core.Bool.{true, and-true}
 use mathlib.Core.List.{List, _∷_}
 use mathlib.Core.Option.{Option, some}
 use Prim.Native.Nat.{ℕ, zero, suc, _-_, _≤_, _<_}
 use native.Mathlib.Omega.{arith}
-use lib.IntN.{ℤ, pos, negsuc, negℤ, _+ℤ_, _-ℤ_, +ℤ-assoc, +ℤ-comm, negℤ-+ℤ, negℤ-negℤ}
+use lib.Dec.{leb, leb·suc-suc}
+use lib.IntN.{ℤ, pos, negsuc, negℤ, natAbs, _+ℤ_, _-ℤ_, +ℤ-assoc, +ℤ-comm, negℤ-+ℤ, negℤ-negℤ}
 use lib.ListN.{length}
 use lib.Signed.{leZ, mag}
 use borrow.Author.Tests.{leb-true, lt-ltb}
 use Rattle.limits.specs.Limits.{reach, mostSignals}
 use Rattle.theory.specs.Signals.{window, offsets}
-use Rattle.theory.specs.Plans.{Plan, scan, near, larger-of, smaller-of, lo, hi}
+use Rattle.theory.proofs.Plans.{Plan, scan, near, larger-of, smaller-of, lo, hi}
 use Rattle.theory.proofs.Tests.{and-left, and-right}
 use Rattle.theory.proofs.Offsets.{leftmost-neg, rightmost-neg}
 use Rattle.recipes.specs.declared.Reach.{Reach}
 use Rattle.recipes.specs.declared.Step.{Step}
 use Rattle.recipes.specs.declared.Step.the-variants.{Signal, Erode, Dilate, Open, Close, Rank, Median, Larger, Smaller}
 use Rattle.recipes.specs.Machine.{added, replaced, joined, eroded, dilated, rankedBy, act, reaches, bothReach}
-use Rattle.recipes.specs.Judge.{isNear, inReach}
-use Rattle.recipes.specs.Parts.{Little, minOf, maxOf, moved, erodedReach, dilatedReach, openedReach, taken, reachLeft}
+use Rattle.recipes.specs.Judge.{inReach}
+use Rattle.recipes.specs.Private.{isNear, Little, minOf, maxOf, moved, erodedReach, dilatedReach, openedReach, taken, reachLeft}
 use Rattle.recipes.proofs.Plans.{fold}
 
 -- two reaches with the same ends
@@ -103,11 +104,20 @@ reach-table Smaller q r st l = refl
 
 -- ---- the ends of a reach
 
+-- -4 to 4, by either test
+pub near-by : (z : ℤ) → isNear z ≡ leb (natAbs z) reach
+unfolding isNear
+near-by (pos n) = refl
+near-by (negsuc n) = and-true _ ∙ sym (leb·suc-suc n (reach - 1))
+
+pub in-near : (r : Reach) → inReach r ≡ true → (isNear (r .lo) ≡ true) × (isNear (r .hi) ≡ true)
+unfolding inReach
+in-near r h = (near-by (r .lo) ∙ and-left _ _ h, near-by (r .hi) ∙ and-right (leb (natAbs (r .lo)) reach) _ h)
+
 near-little : (z : ℤ) → isNear z ≡ true → mag z ≤ reach
 unfolding isNear
 near-little (pos n) h = leb-true n reach (and-right (leZ (negℤ (pos reach)) (pos n)) _ h)
 near-little (negsuc n) h = omega (arith, leb-true n (reach - 1) (and-left _ _ h))
 
 pub in-little : (r : Reach) → inReach r ≡ true → Little r
-unfolding inReach
-in-little r h = (near-little (r .lo) (and-left _ _ h), near-little (r .hi) (and-right (isNear (r .lo)) _ h))
+in-little r h = let near = in-near r h in (near-little (r .lo) (near .0), near-little (r .hi) (near .1))

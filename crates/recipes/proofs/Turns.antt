@@ -23,9 +23,9 @@ use Rattle.recipes.specs.declared.Step.{Step}
 use Rattle.recipes.specs.declared.Step.the-variants.{Signal, Erode, Dilate, Open, Close, Rank, Median, Larger, Smaller}
 use Rattle.recipes.specs.declared.Decoded.the-variants.{Good, Bad}
 use Rattle.recipes.specs.Steps.{stepAt}
-use Rattle.recipes.specs.Machine.{Machine, added, replaced, joined, act, origin, reaches}
-use Rattle.recipes.specs.Judge.{inReach, lastIn, onward, stepped, judgedFrom, judged}
-use Rattle.recipes.specs.Parts.{Little, taken, reachLeft}
+use Rattle.recipes.specs.Machine.{Machine, added, replaced, joined, act, reaches}
+use Rattle.recipes.specs.Judge.{inReach, onward, stepped, judgedFrom}
+use Rattle.recipes.specs.Private.{judged, origin, Little, taken, reachLeft}
 use Rattle.recipes.proofs.Reaches.{above, reach-table, in-little}
 
 -- ---- a step that cannot be done
@@ -203,11 +203,11 @@ module _ {r : List ℕ} {i count : ℕ} {rs : List Reach} {s : Step} {t : ℕ} (
         ∙ ap {B = Option (List Reach)} (λ w. some (w ∷ stackOf rs at)) (sym e)
 
     pub turn-far : inReach v ≡ false → judged r ≡ Refused (refusal 5 i)
-    unfolding onward lastIn
+    unfolding onward
     turn-far k = turn-is ∙ rw (acted, k)
 
     pub turn-on : inReach v ≡ true → AtStep r (i + 1) (count - t + 1) (set rs (count - t) v)
-    unfolding onward lastIn
+    unfolding onward
     turn-on k =
         let at = count - t in
         let in-room : at < length rs = omega (arith, a .before .room) in

@@ -1,12 +1,11 @@
 -- Which recipes are accepted: 1; then step by step 2, 3, 4, 5; then 4 at the end.
 use Prim.Native.Nat.{ℕ, zero, suc, _+_, _*_, _/_, _%_}
-use mathlib.Core.Bool.{Bool, true, not, _&&_, _||_}
-use mathlib.Core.List.{List, [], _∷_}
+use mathlib.Core.Bool.{Bool, not, _&&_, _||_}
+use mathlib.Core.List.{List, []}
 use mathlib.Core.Option.{Option, none, some}
-use lib.Dec.{ltb, eqb}
-use lib.IntN.{ℤ, pos, negℤ}
-use lib.ListN.{length}
-use lib.Signed.{leZ}
+use lib.Dec.{leb, ltb, eqb}
+use lib.IntN.{natAbs}
+use lib.ListN.{length, getD}
 use Rattle.limits.specs.Limits.{reach, stepBytes, mostSteps}
 use Rattle.refusals.specs.Refusals.{refusal, refuseIf, orElse}
 use Rattle.refusals.specs.declared.Checked.{Checked}
@@ -17,23 +16,14 @@ use Rattle.recipes.specs.declared.Reach.{Reach}
 use Rattle.recipes.specs.Steps.{stepAt}
 use Rattle.recipes.specs.Machine.{act, reaches}
 
--- -4 to 4
-unfoldable pub isNear : ℤ → Bool
-isNear z = leZ (negℤ (pos reach)) z && leZ z (pos reach)
-
 -- a reach lies in -4 to 4: both its ends do
 unfoldable pub inReach : Reach → Bool
-inReach r = isNear (r .lo) && isNear (r .hi)
+inReach r = leb (natAbs (r .lo)) reach && leb (natAbs (r .hi)) reach
 
--- the last signal held is in reach
-unfoldable pub lastIn : List Reach → Bool
-lastIn [] = true
-lastIn (r ∷ st) = inReach r
-
--- after step i: 4 where it cannot be done, 5 where its reach leaves, and else what comes next
+-- after step i: 4 where it cannot be done, 5 where the reach of the last signal leaves, and else what comes next
 unfoldable pub onward : ℕ → Option (List Reach) → (List Reach → Checked) → Checked
 onward i none next = Refused (refusal 4 i)
-onward i (some st) next = orElse (refuseIf (not (lastIn st)) 5 i) (next st)
+onward i (some st) next = orElse (refuseIf (not (inReach (getD st 0 (reaches .the-scan)))) 5 i) (next st)
 
 -- step i: 2 or 3 where it is none
 unfoldable pub stepped : ℕ → Decoded → List Reach → (List Reach → Checked) → Checked
@@ -45,14 +35,10 @@ unfoldable pub judgedFrom : List ℕ → ℕ → ℕ → List Reach → Checked
 judgedFrom r zero i st = refuseIf (not (eqb (length st) 1)) 4 i
 judgedFrom r (suc m) i st = stepped i (stepAt r i) st (judgedFrom r m (i + 1))
 
--- all its steps
-unfoldable pub judged : List ℕ → Checked
-judged r = judgedFrom r (length r / stepBytes) 0 []
-
 -- a recipe is empty, over 128 bytes, or not a multiple of 4
 unfoldable pub badLength : ℕ → Bool
 badLength n = eqb n 0 || ltb (stepBytes * mostSteps) n || not (eqb (n % stepBytes) 0)
 
 -- 1 to 5
 unfoldable pub recipeChecked : List ℕ → Checked
-recipeChecked r = orElse (refuseIf (badLength (length r)) 1 (length r)) (judged r)
+recipeChecked r = orElse (refuseIf (badLength (length r)) 1 (length r)) (judgedFrom r (length r / stepBytes) 0 [])

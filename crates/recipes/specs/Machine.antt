@@ -7,8 +7,9 @@ use Prim.Native.Nat.{ℕ, _+_, _/_}
 use lib.Dec.{ltb}
 use lib.ListN.{length}
 use lib.IntN.{ℤ, pos, negℤ, _+ℤ_}
+use lib.Signed.{leZ}
 use Rattle.limits.specs.Limits.{mostSignals}
-use Rattle.theory.specs.Orders.{Order, larger, smaller, ints}
+use Rattle.theory.specs.Orders.{Order, larger, smaller}
 use Rattle.theory.specs.Ranks.{Pick, the-smallest, the-largest, the-kth, pick}
 use Rattle.theory.specs.Signals.{window, offsets, size, leftmost, rightmost}
 use Rattle.recipes.specs.declared.Step.{Step}
@@ -72,18 +73,14 @@ signals O g = record {
   the-smaller = λ s t x. smaller O (s x) (t x);
 }
 
--- the reach of the scan: 0 to 0
-abbrev pub origin : Reach
-origin = record { lo = pos 0; hi = pos 0 }
-
 -- the reach of the larger or the smaller of two signals: least lo to greatest hi
 unfoldable pub bothReach : Reach → Reach → Reach
-bothReach q r = record { lo = smaller ints (q .lo) (r .lo); hi = larger ints (q .hi) (r .hi) }
+bothReach q r = record { lo = smaller leZ (q .lo) (r .lo); hi = larger leZ (q .hi) (r .hi) }
 
 -- the machine on reaches, the offsets lo to hi that a signal can depend on
 unfoldable pub reaches : Machine Reach
 reaches = record {
-  the-scan = origin;
+  the-scan = record { lo = pos 0; hi = pos 0 };
   around = λ p bs r. record { lo = r .lo +ℤ leftmost bs; hi = r .hi +ℤ rightmost bs };
   the-larger = bothReach;
   the-smaller = bothReach;

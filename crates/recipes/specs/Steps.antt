@@ -1,10 +1,11 @@
 -- A step's four bytes: code, rank, then the set B, two bytes, low first. A field not listed must be 0.
-use Prim.Native.Nat.{ℕ, _+_, _-_, _*_, _%_}
+use Prim.Native.Nat.{ℕ, _+_, _*_, _%_}
 use mathlib.Core.Bool.{Bool, cond, _&&_}
 use mathlib.Core.List.{List}
 use lib.Dec.{leb, eqb}
 use lib.ListN.{getD}
-use Rattle.limits.specs.Limits.{patterns, stepBytes}
+use Rattle.limits.specs.Limits.{width, stepBytes}
+use Rattle.theory.specs.Sets.{isSet}
 use Rattle.theory.specs.Signals.{window, size}
 use Rattle.refusals.specs.Refusals.{refusal}
 use Rattle.recipes.specs.declared.Step.{Step}
@@ -12,21 +13,17 @@ use Rattle.recipes.specs.declared.Step.the-variants.{Signal, Erode, Dila
 use Rattle.recipes.specs.declared.Decoded.{Decoded}
 use Rattle.recipes.specs.declared.Decoded.the-variants.{Good, Bad}
 
--- B is 1 to 511
-abbrev pub isSet : ℕ → Bool
-isSet B = leb 1 B && leb B (patterns - 1)
-
 -- a step with no field
 abbrev pub noFields : ℕ → ℕ → Bool
 noFields k B = eqb k 0 && eqb B 0
 
--- a step whose only field is B
+-- a step whose only field is B, 1 to 511
 abbrev pub setAlone : ℕ → ℕ → Bool
-setAlone k B = eqb k 0 && isSet B
+setAlone k B = eqb k 0 && isSet width B
 
 -- k is 1 to the size of B
 unfoldable pub rankFits : ℕ → ℕ → Bool
-rankFits k B = isSet B && (leb 1 k && leb k (size window B))
+rankFits k B = isSet width B && (leb 1 k && leb k (size window B))
 
 -- B has an odd size
 unfoldable pub oddSet : ℕ → ℕ → Bool

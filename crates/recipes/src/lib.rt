@@ -10,13 +10,14 @@ use refusals::Refusal;
 ghost use mathlib.Core.Path.{_≡_};
 ghost use lib.IntN.{_-ℤ_};
 ghost use lib.ListN.{getD};
-ghost use Rattle.theory.specs.Orders.{ints, smaller as smallerOf, larger as largerOf};
+ghost use lib.Signed.{leZ};
+ghost use Rattle.theory.specs.Orders.{smaller as smallerOf, larger as largerOf};
 ghost use Rattle.theory.specs.Signals.{window, size as sizeOf};
-ghost use Rattle.recipes.specs.Steps.{isSet, noFields, setAlone, rankFits, oddSet, allowed, decodedOf, stepAt};
+ghost use Rattle.recipes.specs.Steps.{noFields, setAlone, rankFits, oddSet, allowed, decodedOf, stepAt};
 ghost use Rattle.recipes.specs.Machine.{bothReach};
-ghost use Rattle.recipes.specs.Judge.{isNear, inReach, judged, recipeChecked};
-ghost use Rattle.recipes.specs.Parts.{changeOf, joinOf, refusalIn, taken};
-ghost use Rattle.recipes.specs.Parts.{Near, Little, minOf, maxOf, moved, erodedReach, dilatedReach, openedReach, reachLeft};
+ghost use Rattle.recipes.specs.Judge.{inReach, recipeChecked};
+ghost use Rattle.recipes.specs.Private.{changeOf, joinOf, refusalIn, judged, isNear, taken};
+ghost use Rattle.recipes.specs.Private.{Near, Little, minOf, maxOf, moved, erodedReach, dilatedReach, openedReach, reachLeft};
 
 // The bytes of a recipe of the most steps.
 const LONGEST_RECIPE: usize = STEP_BYTES * MOST_STEPS;
@@ -65,25 +66,18 @@ fn no_fields(k: u8, set: u16) -> bool
     (k == 0) & (set == 0)
 }
 
-// Whether a set is one of 1 to 511: a set of offsets, with some.
-fn is_set(set: u16) -> bool
-    ensures { λ r. ⌜ r ≡ isSet set ⌝ }
-{
-    (1 <= set) & (set <= ALL_OFFSETS)
-}
-
 // Whether the set is the only field.
 fn set_alone(k: u8, set: u16) -> bool
     ensures { λ r. ⌜ r ≡ setAlone k set ⌝ }
 {
-    (k == 0) & is_set(set)
+    (k == 0) & bits::is_set(set)
 }
 
 // Whether the rank is 1 to the size of the set.
 fn rank_fits(k: u8, set: u16) -> bool
     ensures { λ r. ⌜ r ≡ rankFits k set ⌝ }
 {
-    is_set(set) & ((1 <= k) & (k <= size(set)))
+    bits::is_set(set) & ((1 <= k) & (k <= size(set)))
 }
 
 // Whether the set is the only field, and has an odd size.
@@ -178,14 +172,14 @@ pub fn step_at(recipe: &[u8], place: usize) -> Decoded
 
 // The smaller of two offsets.
 fn smaller(a: i32, b: i32) -> i32
-    ensures { λ r. ⌜ r ≡ smallerOf ints a b ⌝ }
+    ensures { λ r. ⌜ r ≡ smallerOf leZ a b ⌝ }
 {
     if a <= b { a } else { b }
 }
 
 // The larger of two offsets.
 fn larger(a: i32, b: i32) -> i32
-    ensures { λ r. ⌜ r ≡ largerOf ints a b ⌝ }
+    ensures { λ r. ⌜ r ≡ largerOf leZ a b ⌝ }
 {
     if a <= b { b } else { a }
 }

@@ -1,10 +1,12 @@
 -- The report's counts of a form and a scan, each the count or the sum of document 01's definition over the residues.
-use Prim.Native.Nat.{ℕ, zero, suc}
+use Prim.Native.Nat.{ℕ}
 use mathlib.Core.Path.{_≡_}
-use mathlib.Core.Bool.{Bool, true, false}
+use mathlib.Core.Bool.{Bool, cond}
 use mathlib.Core.List.{List}
+use lib.Dec.{ltb}
 use lib.ListN.{length}
-use lib.IntN.{ℤ, pos, negsuc}
+use lib.IntN.{ℤ, natAbs}
+use lib.Signed.{nonNeg}
 use Rattle.theory.specs.Lists.{bit, sum}
 use Rattle.theory.specs.Signals.{held, residueAt}
 use Rattle.refusals.specs.Refusals.{answered}
@@ -17,33 +19,21 @@ use Rattle.reports.specs.Runs.{longestRuns}
 
 -- the residue isn't 0
 unfoldable pub isChange : ℤ → Bool
-isChange (pos zero) = false
-isChange (pos (suc n)) = true
-isChange (negsuc n) = true
+isChange r = ltb 0 (natAbs r)
 
 -- the kind that a spike's samples have in common: the residue isn't 0
 unfoldable pub kindOf : ℤ → ℕ
 kindOf r = bit (isChange r)
 
--- a positive residue; 0 for another
-unfoldable pub above : ℤ → ℕ
-above (pos n) = n
-above (negsuc n) = 0
-
--- a negative residue with the sign dropped; 0 for another
-unfoldable pub below : ℤ → ℕ
-below (pos n) = 0
-below (negsuc n) = suc n
-
--- the counts of n residues: the samples, those that changed, the longest runs of them, and the totals of the positive and of the
--- negative residues
+-- the counts of n residues: the samples, those that changed, the longest runs of them, the total of the positive residues, and that of the
+-- negative ones with the sign dropped
 unfoldable pub countsOf : ℕ → (ℕ → ℤ) → Counts
 countsOf n residue = record {
   samples = n;
   changed = sum n (λ x. bit (isChange (residue x)));
   spikes = longestRuns n (λ x. kindOf (residue x));
-  up = sum n (λ x. above (residue x));
-  down = sum n (λ x. below (residue x));
+  up = sum n (λ x. cond (nonNeg (residue x)) (natAbs (residue x)) 0);
+  down = sum n (λ x. cond (nonNeg (residue x)) 0 (natAbs (residue x)));
 }
 
 -- counting from the file f: 11, 7, 8, 9, or the counts of its form on its scan

@@ -12,11 +12,11 @@ use lib.Signed.{leZ}
 use lib.Dec.{leb, ltb}
 use borrow.Author.Tests.{leb-true, ltb-true}
 use Rattle.limits.specs.Limits.{width, patterns, reach}
-use Rattle.theory.specs.Sets.{positions}
-use Rattle.theory.specs.Orders.{counts, ints}
+use Rattle.theory.specs.Sets.{positions, isSet}
+use Rattle.theory.specs.Orders.{counts}
 use Rattle.theory.specs.Ranks.{Pick, the-smallest, the-largest, the-kth, pick}
 use Rattle.theory.specs.Signals.{Window, window, wide, offset, offsets, size, between, leftmost, rightmost}
-use Rattle.theory.specs.Plans.{Plan, near, meaning, lo, hi}
+use Rattle.theory.proofs.Plans.{Plan, near, meaning, lo, hi}
 use Rattle.theory.proofs.Tests.{and-left, and-right}
 use Rattle.theory.proofs.Lists.{mem-index, tab-cong}
 use Rattle.theory.proofs.Sets.{positions-nonempty}
@@ -28,10 +28,11 @@ use Rattle.theory.proofs.Truth.{Fits}
 use Rattle.theory.proofs.Steps.{moved-opening, moved-closing}
 use Rattle.rows.specs.declared.Change.{Change}
 use Rattle.rows.specs.declared.Change.the-variants.{Stretch, OpenOrClose, Select}
-use Rattle.rows.specs.Sizes.{margin, opening, longestRow}
-use Rattle.rows.specs.Rows.{rowOf, isWider}
-use Rattle.rows.specs.Changes.{extreme, turned, stretched, fromLeast, afterChange, isSet, isSound, Sound, canChange}
-use Rattle.rows.proofs.Rows.{picked-row}
+use Rattle.rows.specs.Sizes.{opening, longestRow}
+use Rattle.rows.specs.Private.{margin, extreme, turned, Sound}
+use Rattle.rows.specs.Rows.{isWider}
+use Rattle.rows.specs.Changes.{stretched, fromLeast, afterChange, isSound, canChange}
+use Rattle.rows.proofs.Rows.{rowOf, picked-row}
 
 -- ---- plans
 
@@ -53,11 +54,11 @@ planAfter (Select B k) e = near (the-kth k) (offsets window B) e
 
 -- the end of some offsets moves with them
 moved-end : (p : Pick) (c b : ℤ) (bs : List ℤ)
-    → pick ints p (pos 0) (λ z. z) (map (λ z. z +ℤ c) (b ∷ bs)) ≡ pick ints p (pos 0) (λ z. z) (b ∷ bs) +ℤ c
+    → pick leZ p (pos 0) (λ z. z) (map (λ z. z +ℤ c) (b ∷ bs)) ≡ pick leZ p (pos 0) (λ z. z) (b ∷ bs) +ℤ c
 moved-end p c b bs =
-    pick-map ints (λ z. z +ℤ c) p (pos 0) (λ z. z) (b ∷ bs)
-    ∙ pick-agree ints p (pos 0) (pos 0 +ℤ c) (λ z. z +ℤ c) (λ z. z +ℤ c) b bs (λ z m. refl)
-    ∙ sym (keeps-pick ints-lawful ints ints-strict (λ z. z +ℤ c) up p (pos 0) (λ z. z) (b ∷ bs))
+    pick-map leZ (λ z. z +ℤ c) p (pos 0) (λ z. z) (b ∷ bs)
+    ∙ pick-agree leZ p (pos 0) (pos 0 +ℤ c) (λ z. z +ℤ c) (λ z. z +ℤ c) b bs (λ z m. refl)
+    ∙ sym (keeps-pick ints-lawful leZ ints-strict (λ z. z +ℤ c) up p (pos 0) (λ z. z) (b ∷ bs))
   where
     up : (y z : ℤ) → leZ y z ≡ true → leZ (y +ℤ c) (z +ℤ c) ≡ true
     up y z h = leZ-add y z c c h (leq-refl ints-lawful c)
@@ -119,7 +120,7 @@ module _ (b : ℤ) (bs : List ℤ) where
 -- ---- what the tests of a change say
 
 -- a set has some positions, and as many offsets
-module _ (B : ℕ) (set : isSet B ≡ true) where
+module _ (B : ℕ) (set : isSet width B ≡ true) where
   set-bounds : (0 < B) × (B < patterns)
   unfolding isSet
   set-bounds =
@@ -133,15 +134,15 @@ module _ (B : ℕ) (set : isSet B ≡ true) where
   some-offsets = omega (arith, some-positions, length-map (positions width B) (offset window))
 
 -- a rank is 1 to the set's size
-pub rank-bounds : (B k : ℕ) → Sound (Select B k) → (isSet B ≡ true) × (0 < k) × (k ≤ size window B)
+pub rank-bounds : (B k : ℕ) → Sound (Select B k) → (isSet width B ≡ true) × (0 < k) × (k ≤ size window B)
 unfolding isSound
 rank-bounds B k sound =
     let some = ltb 0 k in
     let few = leb k (size window B) in
-    let front = and-left (isSet B && some) few sound in (
-      and-left (isSet B) some front,
-      ltb-true 0 k (and-right (isSet B) some front),
-      leb-true k (size window B) (and-right (isSet B && some) few sound),
+    let front = and-left (isSet width B && some) few sound in (
+      and-left (isSet width B) some front,
+      ltb-true 0 k (and-right (isSet width B) some front),
+      leb-true k (size window B) (and-right (isSet width B && some) few sound),
     )
 
 -- where a row can be changed, the change is sound, the row is not too long, and the room is for it widened

@@ -4,7 +4,7 @@ use Prim.Native.Nat.{ℕ}
 use mathlib.Core.Path.{_≡_, sym, _∙_}
 use mathlib.Core.Bool.{Bool, cond}
 use mathlib.Core.List.{List}
-use Rattle.rows.specs.Rows.{copied, put-widened, put-paired}
+use Rattle.rows.proofs.Passes.{copied, put-widened, put-paired}
 
 pub copy-decided : (from : ℕ) (src dst new new′ : List ℕ) → new ≡ copied from src dst → new′ ≡ copied from src dst → new ≡ new′
 copy-decided from src dst new new′ p q = p ∙ sym q

@@ -14,7 +14,8 @@ use Rattle.theory.specs.Signals.{between}
 use Rattle.theory.proofs.Lists.{length-tab, tab-cong}
 use Rattle.theory.proofs.Slices.{sets-three, sets-whole}
 use Rattle.theory.proofs.Signals.{between-left, between-inside, between-right}
-use Rattle.rows.specs.Rows.{part, widened}
+use Rattle.rows.specs.Rows.{widened}
+use Rattle.rows.specs.Private.{part}
 
 -- a list by its rule, in two
 pub tab-split : {A : Type 0} (a k : ℕ) (f : ℕ → A) → tab (a + k) f ≡ tab a f ++ tab k (λ j. f (a + j))

@@ -9,18 +9,23 @@ use native.Mathlib.Omega.{arith}
 use lib.ListN.{length, getD}
 use lib.IntN.{ℤ, pos, negsuc, subℕ, _+ℤ_}
 use Rattle.limits.specs.Limits.{reach}
+use Rattle.theory.specs.Lists.{tab}
 use Rattle.theory.specs.Orders.{counts, larger, smaller}
 use Rattle.theory.specs.Ranks.{Pick}
 use Rattle.theory.specs.Signals.{window, between}
-use Rattle.theory.specs.Plans.{Plan, scan, near, larger-of, smaller-of, meaning}
+use Rattle.theory.proofs.Plans.{Plan, scan, near, larger-of, smaller-of, meaning}
 use Rattle.theory.proofs.Lists.{length-tab, getD-tab, tab-cong}
 use Rattle.theory.proofs.Ranks.{pick-agree}
 use Rattle.theory.proofs.Differences.{sub-low, sub-high, sub-same, sub-add, pos-add}
 use Rattle.theory.proofs.Truth.{Fits}
 use Rattle.theory.proofs.Beyond.{whole-row}
-use Rattle.rows.specs.Sizes.{margin}
-use Rattle.rows.specs.Rows.{rowOf, widened, chosen, paired}
+use Rattle.rows.specs.Private.{margin, chosen}
+use Rattle.rows.specs.Rows.{widened, paired}
 use Rattle.rows.specs.Changes.{picked}
+
+-- the row of a plan on the samples s
+unfoldable pub rowOf : Plan → ℕ → ℕ → List ℕ → List ℕ
+rowOf e l r s = tab (length s + margin) (λ j. meaning counts e (between l r s) (subℕ j reach))
 
 -- every integer is a difference of counts
 difference : (b : ℤ) → (x : ℕ) × (y : ℕ) × (subℕ x y ≡ b)

@@ -6,7 +6,8 @@ use Prim.Native.Nat.{ℕ, _≤_, _<_}
 use native.Mathlib.Omega.{arith}
 use lib.ListN.{length}
 use Rattle.limits.specs.Limits.{mostSamples}
-use Rattle.theory.specs.Signals.{Ends, before, after, endless}
+use Rattle.theory.specs.Signals.{Ends}
+use Rattle.theory.proofs.Signals.{before, after, endless-between}
 use Rattle.theory.proofs.Lists.{length-tab}
 use Rattle.refusals.specs.declared.Checked.the-variants.{Fine}
 use Rattle.refusals.specs.Refusals.{written}
@@ -16,7 +17,7 @@ use Rattle.refusals.proofs.Shared.{scan-fine, lent-fine}
 use Rattle.recipes.specs.Judge.{recipeChecked}
 use Rattle.recipes.specs.Meaning.{valueAt}
 use Rattle.runner.specs.Run.{ran, recipeRunChecked}
-use Rattle.runner.specs.Pieces.{madeBetween, valuesBetween}
+use Rattle.runner.specs.Private.{madeBetween, valuesBetween}
 
 -- the recipe is accepted, the scan has samples, and as many elements are lent
 pub run-fine : (r s : List ℕ) (lent : ℕ) → recipeRunChecked r s lent ≡ Fine → (recipeChecked r ≡ Fine) × (lent ≡ length s) × (0 < length s)
@@ -30,9 +31,9 @@ run-fine r s lent e =
 pub run-written : (ends : Ends) (r s new old : List ℕ) (left right : ℕ) → recipeRunChecked r s (length old) ≡ Fine
     → left ≡ before 0 ends s → right ≡ after 0 ends s → new ≡ valuesBetween left right r s
     → new ≡ written (recipeRunChecked r s (length old)) (ran ends r s) old
-unfolding ran valuesBetween madeBetween valueAt endless
+unfolding ran valuesBetween madeBetween valueAt
 run-written ends r s new old left right fine el er e =
-    let all : valuesBetween left right r s ≡ ran ends r s = rw (el, er) refl in
+    let all : valuesBetween left right r s ≡ ran ends r s = rw (el, er, ← endless-between 0 ends s) refl in
     let same = run-fine r s (length old) fine .1 in
     let whole : length old ≤ length (ran ends r s) = omega (arith, length-tab (length s) (valueAt ends r s)) in
     e ∙ all ∙ sym (written-whole (ran ends r s) old fine whole)

@@ -11,12 +11,12 @@ use lib.Dec.{ltb}
 use lib.IntN.{ℤ, subℕ, _+ℤ_}
 use lib.ListN.{length, take, length-map}
 use borrow.Author.Tests.{ltb-true, lt-ltb, le-leb}
-use Rattle.limits.specs.Limits.{reach, patterns, stepBytes, mostSignals}
+use Rattle.limits.specs.Limits.{reach, stepBytes, mostSignals}
 use Rattle.theory.specs.Lists.{tab}
 use Rattle.theory.specs.Orders.{counts, larger, smaller}
 use Rattle.theory.specs.Signals.{between, window, size}
-use Rattle.theory.specs.Plans.{Plan, scan, meaning}
-use Rattle.theory.proofs.Tests.{which, not-both, and-both}
+use Rattle.theory.proofs.Plans.{Plan, scan, meaning}
+use Rattle.theory.proofs.Tests.{which, not-both}
 use Rattle.theory.proofs.Lists.{tab-cong}
 use Rattle.theory.proofs.Orders.{Lawful, Strict, counts-lawful, counts-strict}
 use Rattle.refusals.specs.declared.Refusal.{Refusal}
@@ -33,15 +33,14 @@ use Rattle.recipes.proofs.Plans.{plans, planOf, signal-plan}
 use Rattle.recipes.proofs.Accepted.{AllFit, Underway, accepted-start, Advanced, accepted-turn, accepted-end}
 use Rattle.rows.specs.declared.Change.{Change}
 use Rattle.rows.specs.declared.Change.the-variants.{Stretch, OpenOrClose, Select}
-use Rattle.rows.specs.Sizes.{margin}
-use Rattle.rows.specs.Rows.{rowOf, widened, paired}
-use Rattle.rows.specs.Changes.{isSet, isSound, Sound}
-use Rattle.rows.proofs.Rows.{pairOf, scan-row, paired-row}
+use Rattle.rows.specs.Private.{margin, Sound}
+use Rattle.rows.specs.Rows.{widened, paired}
+use Rattle.rows.specs.Changes.{isSound}
+use Rattle.rows.proofs.Rows.{rowOf, pairOf, scan-row, paired-row}
 use Rattle.rows.proofs.Changes.{planAfter, changed-row}
 use Rattle.runner.specs.declared.Work.{Work}
 use Rattle.runner.specs.declared.Work.the-variants as work
-use Rattle.runner.specs.Stacks.{workOf, worked, rowsIn, Ready}
-use Rattle.runner.specs.Pieces.{madeBetween, rowBetween}
+use Rattle.runner.specs.Private.{workOf, worked, rowsIn, Ready, madeBetween, rowBetween}
 use Rattle.runner.proofs.Stacks.{length-rows}
 
 -- ---- the larger and the smaller of two, in either order
@@ -60,13 +59,9 @@ module _ {A : Type 0} (O : Lawful A) (strict : Strict (O .leq)) where
 
 -- ---- a step whose fields are allowed is a sound change
 
-set-sound : (B : ℕ) → IsSet B → isSet B ≡ true
-unfolding isSet
-set-sound B h = and-both (lt-ltb 0 B (h .0)) (lt-ltb B patterns (h .1))
-
 rank-sound : (k B : ℕ) → IsSet B → 0 < k → k ≤ size window B → isSound (Select B k) ≡ true
 unfolding isSound
-rank-sound k B h low few = rw (set-sound B h, lt-ltb 0 k low, le-leb k (size window B) few)
+rank-sound k B h low few = rw (h, lt-ltb 0 k low, le-leb k (size window B) few)
 
 -- ---- one step
 
@@ -122,10 +117,10 @@ module _ (l r : ℕ) (s : List ℕ) where
       → Does (workOf step) st after
   unfolding act plans eroded dilated rankedBy isSound
   step-does Signal sane st after ok left h = add-does st after h
-  step-does (Erode B) sane st after ok left h = change-does (Stretch B false) (set-sound B sane) st after ok left h
-  step-does (Dilate B) sane st after ok left h = change-does (Stretch B true) (set-sound B sane) st after ok left h
-  step-does (Open B) sane st after ok left h = change-does (OpenOrClose B false) (set-sound B sane) st after ok left h
-  step-does (Close B) sane st after ok left h = change-does (OpenOrClose B true) (set-sound B sane) st after ok left h
+  step-does (Erode B) sane st after ok left h = change-does (Stretch B false) sane st after ok left h
+  step-does (Dilate B) sane st after ok left h = change-does (Stretch B true) sane st after ok left h
+  step-does (Open B) sane st after ok left h = change-does (OpenOrClose B false) sane st after ok left h
+  step-does (Close B) sane st after ok left h = change-does (OpenOrClose B true) sane st after ok left h
   step-does (Rank k B) sane st after ok left h = change-does (Select B k) (rank-sound k B (sane .0) (sane .1) (sane .2)) st after ok left h
   step-does (Median B) sane st after ok left h =
       let k = (size window B + 1) / 2 in

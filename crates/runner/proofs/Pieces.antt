@@ -14,9 +14,8 @@ use Rattle.limits.specs.Limits.{reach}
 use Rattle.theory.specs.Lists.{tab}
 use Rattle.theory.specs.Orders.{Order, counts}
 use Rattle.theory.specs.Signals.{Window, window, between}
-use Rattle.theory.specs.Plans.{Plan, meaning}
 use Rattle.theory.proofs.Lists.{length-tab, getD-tab, tab-cong}
-use Rattle.theory.proofs.Plans.{translate, local}
+use Rattle.theory.proofs.Plans.{Plan, meaning, translate, local}
 use Rattle.theory.proofs.Differences.{side, sub-high, pos-add}
 use Rattle.theory.proofs.Signals.{between-left, between-inside, between-right, column-of}
 use Rattle.theory.proofs.Truth.{Fits, fits-inside}
@@ -25,11 +24,10 @@ use Rattle.refusals.specs.declared.Checked.the-variants.{Fine}
 use Rattle.recipes.specs.Judge.{recipeChecked}
 use Rattle.recipes.proofs.Plans.{planOf, signal-plan}
 use Rattle.recipes.proofs.Accepted.{plan-fits}
-use Rattle.rows.specs.Sizes.{margin}
-use Rattle.rows.specs.Rows.{part, copied}
-use Rattle.rows.proofs.Passes.{copied-fits}
+use Rattle.rows.specs.Private.{margin, part}
+use Rattle.rows.proofs.Passes.{copied, copied-fits}
 use Rattle.rows.proofs.Parts.{tab-split, mid-length}
-use Rattle.runner.specs.Pieces.{madeBetween, rowBetween, PieceRun}
+use Rattle.runner.specs.Private.{madeBetween, rowBetween, PieceRun}
 
 -- ---- which piece
 

@@ -14,12 +14,13 @@ use Rattle.limits.specs.Limits.{reach, mostSignals}
 use Rattle.theory.proofs.Lists.{length-tab, getD-tab}
 use Rattle.recipes.specs.Machine.{added, replaced, joined}
 use Rattle.rows.specs.declared.Change.{Change}
-use Rattle.rows.specs.Sizes.{margin, opening, longestRow}
-use Rattle.rows.specs.Rows.{part, widened, paired, copied, put-widened, put-paired}
-use Rattle.rows.specs.Changes.{afterChange, Sound, canChange}
-use Rattle.rows.proofs.Passes.{copied-fits, wider-by, put-widened-fits, put-paired-fits}
+use Rattle.rows.specs.Sizes.{opening, longestRow}
+use Rattle.rows.specs.Private.{margin, part, Sound}
+use Rattle.rows.specs.Rows.{widened, paired}
+use Rattle.rows.specs.Changes.{afterChange, canChange}
+use Rattle.rows.proofs.Passes.{copied, put-widened, put-paired, copied-fits, wider-by, put-widened-fits, put-paired-fits}
 use Rattle.rows.proofs.Parts.{mid-length, row-fits}
-use Rattle.runner.specs.Stacks.{rowsIn, Stack}
+use Rattle.runner.specs.Private.{rowsIn, Stack}
 
 pub length-rows : (m h : ℕ) (l : List ℕ) → length (rowsIn m h l) ≡ h
 unfolding rowsIn
@@ -127,7 +128,7 @@ module _ {m : ℕ} {stack : List ℕ} {h : ℕ} (st : Stack m stack h) where
       let long-b = lent-length (h - 1) b below-b place-b in
       let long-a = lent-length (h - 2) a below-a place-a in
       let front : length (midOf 0 (m - 0) room) ≡ length (lent b) = mid-length 0 (m - 0) room (omega arith) ∙ omega arith in
-      let copy : x ≡ lent b = ex ∙ copied-whole (lent b) _ front in
+      let copy : x ≡ lent b = ex ∙ copied-whole (lent b) (midOf 0 (m - 0) room) front in
       let full : length x ≡ m - 0 = ap length copy ∙ omega arith in
       let read : midOf 0 (m - 0) (take 0 room ++ (x ++ rest′)) ≡ lent b = part-back 0 (m - 0) room x rest′ (omega arith) full ∙ copy in
       let is : new ≡ paired high (lent b) (lent a) =

@@ -1,4 +1,3 @@
--- What the contract on running a recipe cites (Run), and what the private contracts go by (Stacks, Pieces).
+-- What the contract on running a recipe cites, and what private contracts alone cite.
 pub mod Run
-pub mod Stacks
-pub mod Pieces
+pub mod Private

@@ -8,7 +8,8 @@ use lib.ListN.{length}
 use Rattle.limits.specs.Limits.{width, mostSamples}
 use Rattle.theory.specs.Lists.{tab}
 use Rattle.theory.specs.Forms.{Valid}
-use Rattle.theory.specs.Signals.{held, before, after, filteredAt}
+use Rattle.theory.specs.Signals.{held, filteredAt}
+use Rattle.theory.proofs.Signals.{before, after}
 use Rattle.theory.proofs.Lists.{length-tab}
 use Rattle.theory.proofs.Demands.{Samples}
 use Rattle.refusals.specs.Promise.{Gives}
@@ -23,7 +24,7 @@ use Rattle.forms.specs.Check.{formChecked}
 use Rattle.forms.proofs.Fine.{fine-form}
 use Rattle.scans.specs.declared.RootAnswer.{RootAnswer}
 use Rattle.scans.specs.Run.{rootChecked, runChecked, rootFound, Root}
-use Rattle.scans.specs.Around.{valueAround}
+use Rattle.scans.specs.Private.{valueAround}
 use Rattle.scans.proofs.Windows.{value-filter}
 
 module _ (ts s : List ℕ) {found : Checked} where

@@ -1,22 +1,23 @@
 -- What the window sees around a sample, as the code reads it, and the filter that the form's value there is.
 -- Assumes nothing.
-use mathlib.Core.Path.{_≡_, refl, sym, _∙_, fun-ext}
+use mathlib.Core.Path.{_≡_, refl, sym, ap, _∙_, fun-ext}
 use mathlib.Core.List.{List}
 use Prim.Native.Nat.{ℕ, _+_, _-_, _≤_, _<_}
 use native.Mathlib.Omega.{arith}
+use lib.IntN.{ℤ, pos}
 use lib.ListN.{length, getD, take, drop}
 use lib.Seq.{getD-take, getD-drop}
 use Rattle.limits.specs.Limits.{reach, width, top}
 use Rattle.theory.specs.Lists.{tab}
 use Rattle.theory.specs.Orders.{counts}
 use Rattle.theory.specs.Forms.{Valid, value}
-use Rattle.theory.specs.Signals.{Ends, before, after, endless, window, wide, filteredAt}
+use Rattle.theory.specs.Signals.{Ends, window, wide, seen, filteredAt}
 use Rattle.theory.proofs.Lists.{getD-tab}
 use Rattle.theory.proofs.Forms.{value-agree}
 use Rattle.theory.proofs.Canon.{valid-terms}
-use Rattle.theory.proofs.Signals.{between-left, between-inside, between-right, seen-at, window-fair}
+use Rattle.theory.proofs.Signals.{before, after, endless-between, between-left, between-inside, between-right, seen-at, window-fair}
 use Rattle.theory.proofs.Demands.{Samples, filtered-value}
-use Rattle.scans.specs.Around.{view, valueAround}
+use Rattle.scans.specs.Private.{view, valueAround}
 
 -- k is the column in which position i stands, as the code has it
 module _ (i k : ℕ) (is : k ≡ window .column i) where
@@ -56,6 +57,8 @@ value-seen l r ts s x = value-agree counts width 0 top ts _ (view l r s x) (λ i
 -- what the form gives between the values of an ends rule is the filter
 pub value-filter : (ends : Ends) (ts s : List ℕ) {l r : ℕ} → l ≡ before 0 ends s → r ≡ after 0 ends s → Valid width ts → Samples s
     → valueAround l r ts s ≡ filteredAt ends ts s
-unfolding valueAround view endless
+unfolding valueAround view
 value-filter ends ts s left right form small =
-    rw (left, right) (fun-ext (λ x. sym (filtered-value ends ts s (valid-terms width ts form) small x)))
+    rw (left, right) (fun-ext (λ x.
+    ap (λ (g : ℤ → ℕ). value counts width 0 top ts (seen window g (pos x))) (sym (endless-between 0 ends s))
+    ∙ sym (filtered-value ends ts s (valid-terms width ts form) small x)))

@@ -1,3 +1,3 @@
--- What the contracts of the runs cite.
+-- What the contracts of the runs cite, and what private contracts alone cite.
 pub mod Run
-pub mod Around
+pub mod Private

@@ -8,7 +8,7 @@ use lib.ListN.{length, getD}
 use lib.IntN.{ℤ}
 use Rattle.limits.specs.Limits.{width, mostSamples}
 use Rattle.theory.specs.Lists.{first, anyBelow, tab}
-use Rattle.theory.specs.Signals.{Ends, held, cleaned, filteredAt, residueAt}
+use Rattle.theory.specs.Signals.{held, cleaned, filteredAt, residueAt}
 use Rattle.refusals.specs.Refusals.{orElse, answered}
 use Rattle.refusals.specs.Shared.{scanChecked, lentChecked}
 use Rattle.refusals.specs.Promise.{Gives}
@@ -34,13 +34,9 @@ runChecked ts s lent = orElse (formChecked width ts) (orElse (scanChecked mostSa
 abbrev pub Clean : List ℕ → List ℕ → List ℕ → List ℕ → Answer → Type 0
 Clean ts s old new r = Gives (runChecked ts s) (length s) (cleaned held ts s) old new r
 
--- raw minus cleaned at each sample
-unfoldable pub residues : Ends → List ℕ → List ℕ → List ℤ
-residues ends ts s = tab (length s) (residueAt ends ts s)
-
--- a residue
+-- a residue: raw minus cleaned at each sample
 abbrev pub Residue : List ℕ → List ℕ → List ℤ → List ℤ → Answer → Type 0
-Residue ts s old new r = Gives (runChecked ts s) (length s) (residues held ts s) old new r
+Residue ts s old new r = Gives (runChecked ts s) (length s) (tab (length s) (residueAt held ts s)) old new r
 
 -- sample x is not what f makes of it
 unfoldable pub differs : (ℕ → ℕ) → List ℕ → ℕ → Bool

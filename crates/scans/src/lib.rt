@@ -16,9 +16,9 @@ ghost use lib.ListN.{length, getD};
 ghost use lib.IntN.{pos, _-ℤ_};
 ghost use Rattle.limits.specs.Limits.{width};
 ghost use Rattle.theory.specs.Lists.{tab};
-ghost use Rattle.theory.specs.Signals.{window, held, before, after};
+ghost use Rattle.theory.specs.Signals.{window, held};
 ghost use Rattle.scans.specs.Run.{rootChecked, runChecked, rootFound, Clean, Residue, Root};
-ghost use Rattle.scans.specs.Around.{view, valueAround, valuesAround, restsAround};
+ghost use Rattle.scans.specs.Private.{view, valueAround, valuesAround, restsAround};
 
 // Whether a scan is a root of a form.
 pub enum RootAnswer {

@@ -10,6 +10,7 @@ use lib.ListN.{length, drop}
 use borrow.Author.Tests.{eqb-true, eq-eqb, not-false}
 use Rattle.limits.specs.Limits.{width, patterns, tableBytes}
 use Rattle.theory.specs.Lists.{anyBelow}
+use Rattle.theory.specs.Forms.{holds}
 use Rattle.theory.specs.Tables.{tableAt, tableOf, slips}
 use Rattle.theory.proofs.Lists.{length-tab}
 use Rattle.refusals.specs.Promise.{Gives}
@@ -21,7 +22,7 @@ use Rattle.refusals.specs.declared.Answer.the-variants as answer
 use Rattle.refusals.proofs.Checks.{refuse-no, or-else-fine, written-whole}
 use Rattle.refusals.proofs.Shared.{room-fine, fine-room}
 use Rattle.forms.specs.Check.{formChecked}
-use Rattle.tables.specs.Tables.{bytesChecked, positiveChecked, formIn, tableIn, tableToFormChecked, formToTableChecked}
+use Rattle.tables.specs.Tables.{bytesChecked, positiveChecked, formIn, tableToFormChecked, formToTableChecked}
 
 -- a call that is refused keeps what it was given, whatever it would give
 pub gives-refused : {A : Type 0} {check : ℕ → Checked} {n : ℕ} {given old : List A} {x : Refusal} → check (length old) ≡ checked.Refused x
@@ -68,8 +69,12 @@ pub form-to-table-fine : (ts : List ℕ) (lent : ℕ) → Tabular ts lent → fo
 unfolding formToTableChecked bytesChecked
 form-to-table-fine ts lent ok = rw (ok .form, eq-eqb lent tableBytes (ok .whole))
 
+-- the truth table of a form
+abbrev pub tableIn : List ℕ → List ℕ
+tableIn ts = tableOf tableBytes (holds ts)
+
 pub table-length : (ts : List ℕ) → length (tableIn ts) ≡ tableBytes
-unfolding tableIn tableOf
+unfolding tableOf
 table-length ts = length-tab tableBytes _
 
 -- the table fills the whole of a slice of its length

@@ -18,13 +18,12 @@ use Rattle.refusals.specs.declared.Answer.{Answer}
 use Rattle.refusals.specs.declared.Answer.the-variants.{Done}
 use Rattle.refusals.proofs.Checks.{done-fine}
 use Rattle.forms.proofs.Fine.{fine-form, form-fine}
-use Rattle.tables.specs.Tables.{formIn, tableIn, tableToFormChecked, formToTableChecked, TableToForm, FormToTable}
+use Rattle.tables.specs.Tables.{formIn, tableToFormChecked, formToTableChecked, TableToForm, FormToTable}
 use Rattle.tables.proofs.Tabulated.{tabulated-form, tabulated-steady}
-use Rattle.tables.proofs.Accepted.{fine-table, table-fine, fine-form-to-table, form-to-table-fine, table-length, table-fills}
+use Rattle.tables.proofs.Accepted.{fine-table, table-fine, fine-form-to-table, form-to-table-fine, tableIn, table-length, table-fills}
 
 -- a form is the form of its table
 pub form-back : (F : List ℕ) → Valid width F → formIn (tableIn F) ≡ F
-unfolding tableIn
 form-back F ok = tabulated-form (holds F) ∙ form-of-holds width F ok
 
 -- a whole table of bytes
@@ -34,14 +33,13 @@ pub record Bytes (tb : List ℕ) : Type 0 where
 
 -- a table that slips nowhere is the table of its form
 pub table-back : (tb : List ℕ) → Bytes tb → anyBelow (slips width (tableAt tb)) patterns ≡ false → tableIn (formIn tb) ≡ tb
-unfolding formIn tableIn
+unfolding formIn
 table-back tb b none =
     let f = tableAt tb in
     rw (b .whole) at (table-same _ tb (b .byte) (λ v l. holds-form width f (fine-positive width f none) v (omega (arith, b .whole))))
 
 -- the table of a form slips nowhere
 pub form-steady : (F : List ℕ) → anyBelow (slips width (tableAt (tableIn F))) patterns ≡ false
-unfolding tableIn
 form-steady F = tabulated-steady (holds F) (holds-positive width F)
 
 -- ---- the calls

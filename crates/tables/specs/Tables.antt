@@ -27,10 +27,6 @@ positiveChecked tb = refuseIf (anyBelow (slips width (tableAt tb)) patterns) 12 
 unfoldable pub formIn : List ℕ → List ℕ
 formIn tb = formOf width (tableAt tb)
 
--- the truth table of a form
-unfoldable pub tableIn : List ℕ → List ℕ
-tableIn ts = tableOf tableBytes (holds ts)
-
 -- table to form: 13, 12, 6
 unfoldable pub tableToFormChecked : List ℕ → ℕ → Checked
 tableToFormChecked tb lent =
@@ -44,6 +40,6 @@ formToTableChecked ts lent = orElse (formChecked width ts) (bytesChecked lent)
 abbrev pub TableToForm : List ℕ → List ℕ → List ℕ → Answer → Type 0
 TableToForm tb old new r = Gives (tableToFormChecked tb) (length (formIn tb)) (formIn tb) old new r
 
--- form to table: the number of terms, and the table in the slice lent
+-- form to table: the number of terms, and the truth table of the form in the slice lent
 abbrev pub FormToTable : List ℕ → List ℕ → List ℕ → Answer → Type 0
-FormToTable ts old new r = Gives (formToTableChecked ts) (length ts) (tableIn ts) old new r
+FormToTable ts old new r = Gives (formToTableChecked ts) (length ts) (tableOf tableBytes (holds ts)) old new r

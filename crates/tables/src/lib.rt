@@ -17,8 +17,8 @@ ghost use Rattle.limits.specs.Limits.{width, patterns, byteBits, tableBytes};
 ghost use Rattle.theory.specs.Lists.{bit, first, anyBelow};
 ghost use Rattle.theory.specs.Sets.{has, gather, with-position};
 ghost use Rattle.theory.specs.Forms.{holds, minimal};
-ghost use Rattle.theory.specs.Tables.{tableAt, slips};
-ghost use Rattle.tables.specs.Tables.{formIn, tableIn, bytesChecked, tableToFormChecked, formToTableChecked};
+ghost use Rattle.theory.specs.Tables.{tableAt, tableOf, slips};
+ghost use Rattle.tables.specs.Tables.{formIn, bytesChecked, tableToFormChecked, formToTableChecked};
 ghost use Rattle.tables.specs.Tables.{TableToForm, FormToTable};
 
 // What position i is worth.
@@ -227,7 +227,7 @@ fn byte_of(terms: &[u16], j: usize) -> u8
 // Writes the form's table.
 fn fill_table(terms: &[u16], table: &mut [u8])
     requires { ⌜ length (now table) ≡ tableBytes ⌝ }
-    ensures { λ _. ⌜ now (table .exit) ≡ tableIn (now (terms .entry)) ⌝ }
+    ensures { λ _. ⌜ now (table .exit) ≡ tableOf tableBytes (holds (now (terms .entry))) ⌝ }
 {
     let mut j: usize = 0;
     while j < TABLE_BYTES {

@@ -11,10 +11,9 @@ use lib.IntN.{ℤ, subℕ, _+ℤ_}
 use Rattle.theory.specs.Lists.{tab}
 use Rattle.theory.specs.Orders.{Order}
 use Rattle.theory.specs.Signals.{Window, between}
-use Rattle.theory.specs.Plans.{Plan, meaning}
 use Rattle.theory.proofs.Lists.{length-tab, getD-tab}
 use Rattle.theory.proofs.Differences.{side, sub-same, sub-add}
-use Rattle.theory.proofs.Plans.{constant-around}
+use Rattle.theory.proofs.Plans.{Plan, meaning, constant-around}
 use Rattle.theory.proofs.Signals.{between-left, between-inside, between-right, column-of}
 use Rattle.theory.proofs.Truth.{Fits, fits-inside}
 

@@ -8,11 +8,11 @@ use Prim.Native.Nat.{ℕ, zero, suc, _+_, _^_, _≤_, _<_, zero-le}
 use native.Mathlib.Omega.{arith}
 use lib.Dec.{ltb, eqb}
 use borrow.Author.Tests.{eqb-true, eqb-false, ne-eqb, not-true, ltb-true}
-use Rattle.theory.specs.Lists.{all, any, keep, put, from}
+use Rattle.theory.specs.Lists.{all, any, keep, from}
 use Rattle.theory.specs.Sets.{within}
 use Rattle.theory.specs.Forms.{holds, Valid, Positive, minimal, formOf}
 use Rattle.theory.proofs.Tests.{same-test, which, not-both, and-left, and-right, and-both}
-use Rattle.theory.proofs.Lists.{all-at, any-at, any-by, any-cong, any-none, keep-mem, keep-at, keep-cong, from-mem, from-at}
+use Rattle.theory.proofs.Lists.{put, all-at, any-at, any-by, any-cong, any-none, keep-mem, keep-at, keep-cong, from-mem, from-at}
 use Rattle.theory.proofs.Sets.{within-refl, within-trans, within-le}
 use Rattle.theory.proofs.Forms.{Terms}
 

@@ -11,7 +11,7 @@ use Rattle.limits.specs.Limits.{reach, width, top}
 use Rattle.theory.specs.Orders.{counts}
 use Rattle.theory.specs.Forms.{value, levels, formOf}
 use Rattle.theory.specs.Signals.{Ends, endless, Scan, window, wide, offset, seen, filteredAt}
-use Rattle.theory.specs.Plans.{Plan, meaning, truth}
+use Rattle.theory.proofs.Plans.{Plan, meaning, truth}
 use Rattle.theory.proofs.Lists.{tally-le}
 use Rattle.theory.proofs.Orders.{counts-lawful, counts-strict}
 use Rattle.theory.proofs.Forms.{Terms, levels-value}

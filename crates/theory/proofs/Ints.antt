@@ -9,7 +9,7 @@ use lib.Dec.{ltb}
 use lib.IntN.{ℤ, pos, negsuc, negℤ, subℕ, _+ℤ_, +ℤ-assoc, +ℤ-comm, +ℤ-idr, +ℤ-invl, negℤ-+ℤ, pos-+ℤ-pos}
 use lib.Signed.{leZ}
 use borrow.Author.Tests.{leb-true, le-leb, lt-ltb, le-ltb}
-use Rattle.theory.specs.Orders.{larger, smaller, ints}
+use Rattle.theory.specs.Orders.{larger, smaller}
 use Rattle.theory.proofs.Tests.{which, not-both}
 use Rattle.theory.proofs.Orders.{ints-lawful, Strict}
 
@@ -49,7 +49,7 @@ leZ-add a b c d p q =
 
 -- ---- each at most the other, and turned round
 
-pub ints-strict : Strict ints
+pub ints-strict : Strict leZ
 ints-strict (pos a) (pos b) p q = ap pos (omega (arith, leb-true a b p, leb-true b a q))
 ints-strict (pos a) (negsuc b) p q = absurd (not-both p refl)
 ints-strict (negsuc a) (pos b) p q = absurd (not-both q refl)
@@ -66,7 +66,7 @@ neg-down a b e =
     ∙ +ℤ-idr (negℤ a) in
     subst (λ (z : ℤ). leZ (negℤ b) z ≡ true) back (up (negℤ b) (g .0))
 
-pub neg-larger : (a b : ℤ) → negℤ (larger ints a b) ≡ smaller ints (negℤ a) (negℤ b)
+pub neg-larger : (a b : ℤ) → negℤ (larger leZ a b) ≡ smaller leZ (negℤ a) (negℤ b)
 unfolding larger smaller
 neg-larger a b = go (which (leZ a b)) (which (leZ (negℤ a) (negℤ b)))
   where

@@ -10,9 +10,9 @@ use native.Mathlib.Numerals.{add-one}
 use native.Mathlib.Omega.{arith}
 use lib.ListN.{length, getD, drop, set, length-append}
 use lib.Seq.{drop-cons, set-append-seam, append-snoc}
-use Rattle.theory.specs.Lists.{keep, put, from, bit}
+use Rattle.theory.specs.Lists.{keep, from, bit}
 use Rattle.theory.proofs.Tests.{which}
-use Rattle.theory.proofs.Lists.{keep-at, from-at, index-mem}
+use Rattle.theory.proofs.Lists.{put, keep-at, from-at, index-mem}
 
 put-append : (b : Bool) (x : ℕ) (xs ys : List ℕ) → put b x (xs ++ ys) ≡ put b x xs ++ ys
 put-append true x xs ys = refl

@@ -1,7 +1,7 @@
 -- Laws of the lists: all, any, keep, the numbers from a on, the first that passes, a list by its rule, a count.
 -- Assumes nothing.
 use mathlib.Core.Path.{_≡_, refl, sym, ap, ap₂, _∙_}
-use mathlib.Core.Bool.{Bool, true, false, _||_}
+use mathlib.Core.Bool.{Bool, true, false, _||_, cond}
 use mathlib.Core.List.{List, [], _∷_, _++_, map, append-nil, List·Memᴰ, List·Memᴰ·head, List·Memᴰ·tail, List·Memᴰ·cases-cons}
 use mathlib.Core.Logic.{_⊎_, inl, inr}
 use Prim.Native.Nat.{ℕ, zero, suc, _+_, _≤_, _<_, min, suc-le-suc, zero-le}
@@ -12,7 +12,7 @@ use lib.Dec.{leb, eqb}
 use lib.ListN.{length, getD, drop, set, drop-of-length-le}
 use lib.Seq.{drop-cons, set-at, append-snoc}
 use borrow.Author.Tests.{eqb-true, eqb-false, lt-ltb, le-ltb, ltb-false, leb-true, leb-false}
-use Rattle.theory.specs.Lists.{all, any, put, keep, tab, from, first, anyBelow, bit, tally}
+use Rattle.theory.specs.Lists.{all, any, keep, tab, from, first, anyBelow, bit, sum, tally}
 use Rattle.theory.proofs.Tests.{which, not-both, and-left, and-right, and-both, or-left, or-right, or-cases}
 
 module _ {A : Type 0} where
@@ -40,6 +40,10 @@ module _ {A : Type 0} where
           → (y : A) × List·Memᴰ y (x ∷ xs) × (p y ≡ true)
       go ih (inl q) = (x, List·Memᴰ·head refl, q)
       go ih (inr q) = (ih q .0, List·Memᴰ·tail (ih q .1), ih q .2)
+
+  -- x in front, where it is kept
+  abbrev pub put : Bool → A → List A → List A
+  put b x xs = cond b (x ∷ xs) xs
 
   pub keep-mem : (p : A → Bool) {x : A} {xs : List A} → List·Memᴰ x xs → p x ≡ true → List·Memᴰ x (keep p xs)
   unfolding keep
@@ -71,6 +75,11 @@ module _ {A : Type 0} where
   unfolding any
   any-cong p q [] f = refl
   any-cong p q (x ∷ xs) f = ap₂ (λ (a b : Bool). a || b) (f x (List·Memᴰ·head refl)) (any-cong p q xs (λ y m. f y (List·Memᴰ·tail m)))
+
+  pub any-map : {B : Type 0} (p : B → Bool) (f : A → B) (xs : List A) → any p (map f xs) ≡ any (λ x. p (f x)) xs
+  unfolding any
+  any-map p f [] = refl
+  any-map p f (x ∷ xs) = ap (λ (b : Bool). p (f x) || b) (any-map p f xs)
 
   pub any-none : (p : A → Bool) (xs : List A) → ((x : A) → List·Memᴰ x xs → p x ≡ false) → any p xs ≡ false
   unfolding any
@@ -239,19 +248,19 @@ bit-lt false = omega arith
 
 -- of k numbers at most k pass
 pub tally-le : (k : ℕ) (p : ℕ → Bool) → tally k p ≤ k
-unfolding tally
+unfolding tally sum
 tally-le zero p = zero-le
 tally-le (suc k) p = omega (arith, tally-le k p, bit-lt (p (suc k)))
 
 pub tally-cong : (k : ℕ) (p q : ℕ → Bool) → ((t : ℕ) → 0 < t → t ≤ k → p t ≡ q t) → tally k p ≡ tally k q
-unfolding tally
+unfolding tally sum
 tally-cong zero p q f = refl
 tally-cong (suc k) p q f =
     ap₂ (λ (x : ℕ) (b : Bool). x + bit b) (tally-cong k p q (λ t l u. f t l (omega arith))) (f (suc k) (omega arith) (omega arith))
 
 -- as many of 1 .. k are at most v as there are numbers up to both
 pub tally-below : (k v : ℕ) → tally k (λ t. leb t v) ≡ min v k
-unfolding tally bit
+unfolding tally sum bit
 tally-below zero v = omega arith
 tally-below (suc k) v = go (which (leb (suc k) v)) (tally-below k v)
   where

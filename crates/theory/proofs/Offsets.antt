@@ -9,7 +9,7 @@ use native.Mathlib.Omega.{arith}
 use lib.IntN.{ℤ, pos, negℤ, subℕ, negℤ-negℤ}
 use lib.Signed.{leZ}
 use Rattle.theory.specs.Sets.{has, positions}
-use Rattle.theory.specs.Orders.{smaller, largest, smallest, ints}
+use Rattle.theory.specs.Orders.{smaller, largest, smallest}
 use Rattle.theory.specs.Ranks.{the-smallest, pick}
 use Rattle.theory.specs.Signals.{Window, wide, offset, offsets, leftmost, rightmost}
 use Rattle.theory.proofs.Tests.{not-both}
@@ -25,7 +25,7 @@ pub leftmost-neg : (bs : List ℤ) → leftmost (map negℤ bs) ≡ negℤ (righ
 unfolding leftmost rightmost smallest largest
 leftmost-neg [] = refl
 leftmost-neg (b ∷ []) = refl
-leftmost-neg (b ∷ c ∷ bs) = ap (smaller ints (negℤ b)) (leftmost-neg (c ∷ bs)) ∙ sym (neg-larger b (rightmost (c ∷ bs)))
+leftmost-neg (b ∷ c ∷ bs) = ap (smaller leZ (negℤ b)) (leftmost-neg (c ∷ bs)) ∙ sym (neg-larger b (rightmost (c ∷ bs)))
 
 neg-neg : (bs : List ℤ) → map negℤ (map negℤ bs) ≡ bs
 neg-neg [] = refl
@@ -40,15 +40,15 @@ rightmost-neg bs = sym (negℤ-negℤ _) ∙ ap negℤ (sym (leftmost-neg (map n
 module _ {X : Type 0} (f : X → ℤ) {x : X} (xs : List X) (m : List·Memᴰ x xs) where
   pub leftmost-is : ((y : X) → List·Memᴰ y xs → leZ (f x) (f y) ≡ true) → leftmost (map f xs) ≡ f x
   unfolding leftmost pick
-  leftmost-is h = pick-map ints f the-smallest (pos 0) (λ z. z) xs ∙ smallest-is ints-lawful ints-strict (pos 0) f xs m h
+  leftmost-is h = pick-map leZ f the-smallest (pos 0) (λ z. z) xs ∙ smallest-is ints-lawful ints-strict (pos 0) f xs m h
 
   pub rightmost-is : ((y : X) → List·Memᴰ y xs → leZ (f y) (f x) ≡ true) → rightmost (map f xs) ≡ f x
   unfolding leftmost pick
   rightmost-is h =
       sym (negℤ-negℤ _)
       ∙ ap negℤ (sym (leftmost-neg (map f xs))
-      ∙ pick-map ints negℤ the-smallest (pos 0) (λ z. z) (map f xs)
-      ∙ pick-map ints f the-smallest (pos 0) negℤ xs
+      ∙ pick-map leZ negℤ the-smallest (pos 0) (λ z. z) (map f xs)
+      ∙ pick-map leZ f the-smallest (pos 0) negℤ xs
       ∙ smallest-is ints-lawful ints-strict (pos 0) (λ z. negℤ (f z)) xs m (λ y k. neg-down (f y) (f x) (h y k)))
       ∙ negℤ-negℤ (f x)
 

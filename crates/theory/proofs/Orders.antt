@@ -12,7 +12,7 @@ use lib.IntN.{ℤ, pos, negsuc}
 use lib.Signed.{leZ}
 use borrow.Author.Tests.{leb-true, leb-false, le-leb}
 use Rattle.theory.specs.Lists.{all, any}
-use Rattle.theory.specs.Orders.{Order, larger, smaller, largest, smallest, bools, counts, ints}
+use Rattle.theory.specs.Orders.{Order, larger, smaller, largest, smallest, bools, counts}
 use Rattle.theory.proofs.Tests.{which, and-true, clash}
 
 -- a test that is a total order
@@ -55,7 +55,7 @@ ints-total (negsuc a) (pos b) p = clash {P = false ≡ true} p
 ints-total (negsuc a) (negsuc b) p = counts-lawful .total b a p
 
 abbrev pub ints-lawful : Lawful ℤ
-ints-lawful = record { leq = ints; trans = ints-trans; total = ints-total }
+ints-lawful = record { leq = leZ; trans = ints-trans; total = ints-total }
 
 pub counts-strict : Strict counts
 counts-strict a b p q = omega (arith, leb-true a b p, leb-true b a q)

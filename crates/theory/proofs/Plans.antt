@@ -1,19 +1,57 @@
--- Laws of plans: cutting goes through every plan, a plan moves with its signal, reads no further than its reach, and its value is one of
+-- Plans: a recipe as a tree over the scan; its meaning on endless signals of any order, its reach, and its Boolean function. Theorems alone
+-- use them: what a recipe gives is defined step by step. Laws of plans: cutting goes through every plan, a plan moves with its signal, reads no further than its reach, and its value is one of
 -- the signal's: so where the signal is constant, the plan is that constant.
 -- Assumes nothing.
 use mathlib.Core.Path.{_≡_, refl, sym, ap, ap₂, _∙_, fun-ext}
-use mathlib.Core.Bool.{true}
-use mathlib.Core.List.{[], _∷_}
+use mathlib.Core.Bool.{Bool, true}
+use mathlib.Core.List.{List, [], _∷_}
+use Prim.Native.Nat.{ℕ}
 use lib.IntN.{ℤ, pos, _+ℤ_, +ℤ-assoc, +ℤ-idl, +ℤ-idr}
 use lib.Signed.{leZ}
-use Rattle.theory.specs.Orders.{Order, larger, smaller, largest, smallest}
-use Rattle.theory.specs.Ranks.{pick}
-use Rattle.theory.specs.Signals.{leftmost, rightmost}
-use Rattle.theory.specs.Plans.{Plan, scan, near, larger-of, smaller-of, meaning, lo, hi}
+use Rattle.theory.specs.Orders.{Order, larger, smaller, largest, smallest, bools}
+use Rattle.theory.specs.Ranks.{Pick, pick}
+use Rattle.theory.specs.Signals.{Window, leftmost, rightmost, spread}
 use Rattle.theory.proofs.Orders.{Lawful, ints-lawful, Strict, Monotone, keeps-larger, keeps-smaller, smallest-le, le-largest}
 use Rattle.theory.proofs.Orders.{smaller-left, smaller-right, larger-left, larger-right, larger-from, smaller-from}
 use Rattle.theory.proofs.Ranks.{pick-none, pick-agree, pick-from, keeps-pick}
 use Rattle.theory.proofs.Ints.{leZ-add}
+
+-- ---- plans
+
+pub data Plan : Type 0 where
+  scan : Plan
+  near : Pick → List ℤ → Plan → Plan
+  larger-of : Plan → Plan → Plan
+  smaller-of : Plan → Plan → Plan
+
+-- the value at x, for the endless signal g
+unfoldable pub meaning : {A : Type 0} → Order A → Plan → (ℤ → A) → ℤ → A
+meaning O scan g x = g x
+meaning O (near p bs e) g x = pick O p (meaning O e g x) (λ b. meaning O e g (x +ℤ b)) bs
+meaning O (larger-of a b) g x = larger O (meaning O a g x) (meaning O b g x)
+meaning O (smaller-of a b) g x = smaller O (meaning O a g x) (meaning O b g x)
+
+-- ---- the reach
+
+-- the least offset that a plan reads
+unfoldable pub lo : Plan → ℤ
+lo scan = pos 0
+lo (near p bs e) = leftmost bs +ℤ lo e
+lo (larger-of a b) = smaller leZ (lo a) (lo b)
+lo (smaller-of a b) = smaller leZ (lo a) (lo b)
+
+-- the greatest offset that a plan reads
+unfoldable pub hi : Plan → ℤ
+hi scan = pos 0
+hi (near p bs e) = rightmost bs +ℤ hi e
+hi (larger-of a b) = larger leZ (hi a) (hi b)
+hi (smaller-of a b) = larger leZ (hi a) (hi b)
+
+-- ---- the Boolean function
+
+-- the plan's Boolean function: the plan on that signal, at 0
+unfoldable pub truth : Window → Plan → ℕ → Bool
+truth W e v = meaning bools e (spread W v) (pos 0)
 
 -- ---- a map that keeps the order goes through every plan: cutting at a level is one
 

@@ -11,10 +11,10 @@ use lib.Count.{ones, ones-step}
 use lib.Dec.{eqb, eqb·zero-suc, eqb·suc-zero, eqb·suc-suc}
 use lib.ListN.{length}
 use borrow.Author.Tests.{eqb-true, ne-eqb, not-true}
-use Rattle.theory.specs.Lists.{any, put, keep, from}
+use Rattle.theory.specs.Lists.{any, keep, from}
 use Rattle.theory.specs.Sets.{has, positions}
 use Rattle.theory.proofs.Tests.{which, not-both, and-left, and-right, and-both, and-true, and-false}
-use Rattle.theory.proofs.Lists.{any-at, any-by, from-mem, from-at}
+use Rattle.theory.proofs.Lists.{put, any-at, any-by, from-mem, from-at}
 use Rattle.theory.proofs.Sets.{within-by, within-le, zero-or-one, mod-two}
 
 -- half of v, read at i

@@ -14,7 +14,7 @@ use Rattle.theory.specs.Sets.{has}
 use Rattle.theory.specs.Orders.{counts}
 use Rattle.theory.specs.Forms.{cut, value, formOf}
 use Rattle.theory.specs.Signals.{Ends, endless, Window, wide, seen}
-use Rattle.theory.specs.Plans.{Plan, meaning, truth}
+use Rattle.theory.proofs.Plans.{Plan, meaning, truth}
 use Rattle.theory.proofs.Lists.{length-tab, getD-tab, getD-tab-default}
 use Rattle.theory.proofs.Orders.{Lawful, StrictOn, counts-lawful}
 use Rattle.theory.proofs.Forms.{cut-is}

@@ -10,7 +10,7 @@ use lib.ListN.{length, getD}
 use lib.IntN.{ℤ, pos, negsuc, negℤ, subℕ}
 use lib.Signed.{leZ}
 use borrow.Author.Tests.{leb-true}
-use Rattle.theory.specs.Signals.{Ends, held, zeros, before, after, between, endless, Window, wide, offset, seen, window}
+use Rattle.theory.specs.Signals.{Ends, held, zeros, between, endless, Window, wide, offset, seen, window}
 use Rattle.theory.proofs.Tests.{not-both}
 use Rattle.theory.proofs.Lists.{getD-inside, getD-beyond}
 use Rattle.theory.proofs.Differences.{sub-low, sub-high, sub-cancel, side, pos-add}
@@ -45,14 +45,28 @@ module _ {A : Type 0} (l r : A) (s : List A) where
 -- ---- a list with its ends
 
 module _ {A : Type 0} (z : A) where
+  -- what an ends rule puts to the left of a list, and to its right
+  abbrev pub before : Ends → List A → A
+  before held s = getD s 0 z
+  before zeros s = z
+
+  abbrev pub after : Ends → List A → A
+  after held s = getD s (length s - 1) z
+  after zeros s = z
+
+  pub endless-between : (ends : Ends) (s : List A) → endless z ends s ≡ between (before ends s) (after ends s) s
+  unfolding endless
+  endless-between held s = refl
+  endless-between zeros s = refl
+
   -- inside the list each rule gives the element
   pub inner : (ends : Ends) (s : List A) (i : ℕ) → i < length s → endless z ends s (pos i) ≡ getD s i z
-  unfolding endless between
-  inner ends s i h = getD-inside s i (after z ends s) z h
+  unfolding between
+  inner ends s i h = rw (endless-between ends s) (getD-inside s i (after ends s) z h)
 
   -- what is so of z and of each element is so everywhere, by either rule
   pub endless-from : (P : A → Type 0) (ends : Ends) (s : List A) → P z → ((i : ℕ) → P (getD s i z)) → (y : ℤ) → P (endless z ends s y)
-  unfolding endless before after
+  unfolding endless
   endless-from P held s p h y = between-from (getD s 0 z) (getD s (length s - 1) z) s P z (h 0) (h (length s - 1)) h y
   endless-from P zeros s p h y = between-from z z s P z p p h y
 

@@ -5,7 +5,7 @@ use mathlib.Core.List.{List, _∷_, map}
 use lib.IntN.{ℤ, negℤ, _+ℤ_, +ℤ-assoc, +ℤ-comm, +ℤ-idr, +ℤ-invr, +ℤ-invl, negℤ-+ℤ}
 use Rattle.theory.specs.Orders.{Order}
 use Rattle.theory.specs.Ranks.{Pick, the-smallest, the-largest}
-use Rattle.theory.specs.Plans.{Plan, near, meaning}
+use Rattle.theory.proofs.Plans.{Plan, near, meaning}
 use Rattle.theory.proofs.Lists.{map-id}
 use Rattle.theory.proofs.Ranks.{pick-agree, pick-map}
 

@@ -1,7 +1,7 @@
 -- The theorem of demand 3: the form of a plan's Boolean function computes the plan, on every endless signal of every order.
 -- Assumes nothing.
 use mathlib.Core.Path.{_≡_, refl, sym, ap, _∙_, subst, fun-ext}
-use mathlib.Core.Bool.{Bool, true, false}
+use mathlib.Core.Bool.{Bool, true, false, _&&_}
 use mathlib.Core.List.{List·Memᴰ}
 use Prim.Native.Nat.{ℕ, zero, suc, _+_, _^_, _<_}
 use native.Mathlib.Omega.{arith}
@@ -11,23 +11,26 @@ use lib.Signed.{leZ}
 use borrow.Author.Tests.{leb-true, le-leb}
 use Rattle.theory.specs.Lists.{any, from, bit}
 use Rattle.theory.specs.Sets.{has, gather, within, positions}
-use Rattle.theory.specs.Orders.{bools, counts, ints}
+use Rattle.theory.specs.Orders.{bools, counts}
 use Rattle.theory.specs.Forms.{holds, cut, value, Positive, minimal, formOf}
-use Rattle.theory.specs.Signals.{Window, wide, offset, seen, sameZ, spread}
-use Rattle.theory.specs.Plans.{Plan, meaning, lo, hi, truth}
+use Rattle.theory.specs.Signals.{Window, wide, offset, offsets, seen, spread}
 use Rattle.theory.proofs.Tests.{same-test, not-both, and-left, and-right, and-both}
-use Rattle.theory.proofs.Lists.{any-at, any-by, keep-at, from-at}
+use Rattle.theory.proofs.Lists.{any-at, any-by, any-map, keep-at, from-at}
 use Rattle.theory.proofs.Sets.{has-gather, gather-lt, within-has, positions-at, positions-mem, has-zero}
 use Rattle.theory.proofs.Orders.{Lawful, counts-lawful, ints-lawful, StrictOn, bools-strict, cut-monotone, same-levels, leq-refl}
 use Rattle.theory.proofs.Ints.{ints-strict}
 use Rattle.theory.proofs.Forms.{Varying, value-cut-varying, value-from}
 use Rattle.theory.proofs.Canon.{minimal-one, holds-form}
-use Rattle.theory.proofs.Plans.{Inside, wider, keeps, constant, translate, local, meaning-from}
+use Rattle.theory.proofs.Plans.{Plan, meaning, lo, hi, truth, Inside, wider, keeps, constant, translate, local, meaning-from}
 use Rattle.theory.proofs.Signals.{Fair, fair-once, fair-cover}
+
+-- two integers are one: each is at most the other
+unfoldable pub sameZ : ℤ → ℤ → Bool
+sameZ a b = leZ a b && leZ b a
 
 pub same-is : (a b : ℤ) → sameZ a b ≡ true → a ≡ b
 unfolding sameZ
-same-is a b e = ints-strict a b (and-left (ints a b) (ints b a) e) (and-right (ints a b) (ints b a) e)
+same-is a b e = ints-strict a b (and-left (leZ a b) (leZ b a) e) (and-right (leZ a b) (leZ b a) e)
 
 pub same-self : (a : ℤ) → sameZ a a ≡ true
 unfolding sameZ
@@ -59,10 +62,13 @@ fits-inside W e ok d i = wider (ok .left-ok) (ok .right-ok) i
 module _ (W : Window) (fair : Fair W) where
   -- ---- the signal of a pattern, at the window's offsets
 
+  spread-by : (v : ℕ) (d : ℤ) → spread W v d ≡ any (λ i. sameZ (offset W i) d) (positions (wide W) v)
+  unfolding spread offsets sameZ
+  spread-by v d = any-map (λ b. sameZ b d) (offset W) (positions (wide W) v)
+
   pub spread-at : (v i : ℕ) → i < wide W → spread W v (offset W i) ≡ has v i
-  unfolding spread
   spread-at v i l =
-      same-test to (λ h. any-by (λ j. sameZ (offset W j) (offset W i)) (positions-mem (wide W) v l h) (same-self (offset W i)))
+      spread-by v (offset W i) ∙ same-test to (λ h. any-by (λ j. sameZ (offset W j) (offset W i)) (positions-mem (wide W) v l h) (same-self (offset W i)))
     where
       to : any (λ j. sameZ (offset W j) (offset W i)) (positions (wide W) v) ≡ true → has v i ≡ true
       to e =
@@ -94,11 +100,10 @@ module _ (W : Window) (fair : Fair W) where
   -- ---- the Boolean function is positive: stack the two patterns, and cut the stack at 1 and at 2
 
   spread-up : (u v : ℕ) → within u v ≡ true → (y : ℤ) → spread W u y ≡ true → spread W v y ≡ true
-  unfolding spread
   spread-up u v q y h =
-      let s = any-at (λ i. sameZ (offset W i) y) (positions (wide W) u) h in
+      let s = any-at (λ i. sameZ (offset W i) y) (positions (wide W) u) (sym (spread-by u y) ∙ h) in
       let k = positions-at (wide W) u (s .1) in
-      any-by (λ i. sameZ (offset W i) y) (positions-mem (wide W) v (k .0) (within-has u v q (s .0) (k .1))) (s .2)
+      spread-by v y ∙ any-by (λ i. sameZ (offset W i) y) (positions-mem (wide W) v (k .0) (within-has u v q (s .0) (k .1))) (s .2)
 
   pub truth-positive : (e : Plan) → Positive (wide W) (truth W e)
   unfolding truth

@@ -9,9 +9,10 @@ use native.Mathlib.Nat.{zero-add, suc-add, add-zero, add-suc}
 use native.Mathlib.Numerals.{add-one}
 use lib.ListN.{length, getD, drop, drop-of-length-le}
 use lib.Seq.{drop-cons}
-use Rattle.theory.specs.Lists.{keep, put, from}
+use Rattle.theory.specs.Lists.{keep, from}
 use Rattle.theory.specs.Orders.{larger, smaller, largest, smallest}
 use Rattle.theory.proofs.Tests.{which, not-both}
+use Rattle.theory.proofs.Lists.{put}
 use Rattle.theory.proofs.Orders.{Lawful, StrictOn, flip, leq-refl, largest-from, smallest-from}
 
 module _ {A : Type 0} (O : Lawful A) where

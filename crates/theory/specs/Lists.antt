@@ -15,15 +15,10 @@ module _ {A : Type 0} where
   any p [] = false
   any p (x ∷ xs) = p x || any p xs
 
-  -- x in front, where it is kept
-  abbrev pub put : Bool → A → List A → List A
-  put true x xs = x ∷ xs
-  put false x xs = xs
-
   -- the elements that pass, in order
   unfoldable pub keep : (A → Bool) → List A → List A
   keep p [] = []
-  keep p (x ∷ xs) = put (p x) x (keep p xs)
+  keep p (x ∷ xs) = let rest = keep p xs in cond (p x) (x ∷ rest) rest
 
   -- f 0, f 1, .. up to f (n - 1)
   unfoldable pub tab : ℕ → (ℕ → A) → List A
@@ -46,15 +41,13 @@ anyBelow p n = ltb (first p n) n
 
 -- a truth value as a number
 unfoldable pub bit : Bool → ℕ
-bit true = 1
-bit false = 0
-
--- how many of 1 .. n pass
-unfoldable pub tally : ℕ → (ℕ → Bool) → ℕ
-tally zero p = 0
-tally (suc n) p = tally n p + bit (p (suc n))
+bit b = cond b 1 0
 
 -- f 0 + f 1 + .. + f (n - 1)
 unfoldable pub sum : ℕ → (ℕ → ℕ) → ℕ
 sum zero f = 0
 sum (suc n) f = sum n f + f n
+
+-- how many of 1 .. n pass
+unfoldable pub tally : ℕ → (ℕ → Bool) → ℕ
+tally n p = sum n (λ k. bit (p (suc k)))

@@ -4,8 +4,6 @@ use mathlib.Core.Bool.{Bool, not, _||_, cond}
 use mathlib.Core.List.{List, [], _∷_}
 use Prim.Native.Nat.{ℕ}
 use lib.Dec.{leb}
-use lib.IntN.{ℤ}
-use lib.Signed.{leZ}
 
 -- an order of A: is the first at most the second?
 abbrev pub Order : Type 0 → Type 0
@@ -33,10 +31,6 @@ module _ {A : Type 0} (O : Order A) where
 -- counts, by size
 abbrev pub counts : Order ℕ
 counts = leb
-
--- the integers
-abbrev pub ints : Order ℤ
-ints = leZ
 
 -- the two truth values, false below true
 abbrev pub bools : Order Bool

@@ -1,8 +1,8 @@
 -- Sets: a number is the set of the positions whose bits it has. Everything is over the width w, the number of positions.
-use mathlib.Core.Bool.{Bool}
+use mathlib.Core.Bool.{Bool, _&&_}
 use mathlib.Core.List.{List}
 use Prim.Native.Nat.{ℕ, zero, suc, _+_, _*_, _/_, _%_, _^_}
-use lib.Dec.{eqb}
+use lib.Dec.{eqb, ltb}
 use lib.Bits.{bitAnd, bitOr}
 use Rattle.theory.specs.Lists.{keep, from, bit}
 
@@ -23,6 +23,10 @@ within a b = eqb (bitAnd a b) a
 -- the positions of v below w, ascending
 unfoldable pub positions : ℕ → ℕ → List ℕ
 positions w v = keep (has v) (from 0 w)
+
+-- a set of positions below w, with some: 1 to 2 ^ w - 1
+unfoldable pub isSet : ℕ → ℕ → Bool
+isSet w v = ltb 0 v && ltb v (2 ^ w)
 
 -- v with the position i too
 unfoldable pub with-position : ℕ → ℕ → ℕ

@@ -4,10 +4,11 @@ use mathlib.Core.List.{List, map}
 use Prim.Native.Nat.{ℕ, suc, _+_, _-_, _≤_}
 use lib.ListN.{length, getD}
 use lib.IntN.{ℤ, pos, negsuc, subℕ, _+ℤ_, _-ℤ_}
+use lib.Signed.{leZ}
 use Rattle.limits.specs.Limits.{reach, width, mostSamples, top}
 use Rattle.theory.specs.Lists.{any, tab}
 use Rattle.theory.specs.Sets.{positions}
-use Rattle.theory.specs.Orders.{largest, smallest, ints}
+use Rattle.theory.specs.Orders.{largest, smallest}
 use Rattle.theory.specs.Forms.{levels}
 
 -- ---- beyond the ends of a list
@@ -18,24 +19,15 @@ pub data Ends : Type 0 where
   zeros : Ends
 
 module _ {A : Type 0} where
-  -- what stands to the left of a list; z stands for nothing
-  unfoldable pub before : A → Ends → List A → A
-  before z held s = getD s 0 z
-  before z zeros s = z
-
-  -- what stands to the right of it
-  unfoldable pub after : A → Ends → List A → A
-  after z held s = getD s (length s - 1) z
-  after z zeros s = z
-
   -- the list with l to its left and r to its right, without end
   unfoldable pub between : A → A → List A → ℤ → A
   between l r s (pos n) = getD s n r
   between l r s (negsuc n) = l
 
-  -- the endless signal of a list
+  -- the endless signal of a list; z stands for nothing
   unfoldable pub endless : A → Ends → List A → ℤ → A
-  endless z ends s = between (before z ends s) (after z ends s) s
+  endless z held s = between (getD s 0 z) (getD s (length s - 1) z) s
+  endless z zeros s = between z z s
 
 -- ---- windows
 
@@ -66,18 +58,14 @@ module _ (W : Window) where
 
 -- the least and the greatest of some offsets; 0 of none
 unfoldable pub leftmost : List ℤ → ℤ
-leftmost bs = smallest ints (pos 0) (λ b. b) bs
+leftmost bs = smallest leZ (pos 0) (λ b. b) bs
 
 unfoldable pub rightmost : List ℤ → ℤ
-rightmost bs = largest ints (pos 0) (λ b. b) bs
+rightmost bs = largest leZ (pos 0) (λ b. b) bs
 
--- two integers are one: each is at most the other
-unfoldable pub sameZ : ℤ → ℤ → Bool
-sameZ a b = ints a b && ints b a
-
--- the 0/1 signal that is 1 exactly at the offsets of v
+-- the 0/1 signal that is 1 exactly at the offsets of v: d is one of them, at most it and at least it
 unfoldable pub spread : Window → ℕ → ℤ → Bool
-spread W v d = any (λ i. sameZ (offset W i) d) (positions (wide W) v)
+spread W v d = any (λ b. leZ b d && leZ d b) (offsets W v)
 
 -- offset d is worth 2 ^ (d + 4): the positions stand in the order of their offsets
 unfoldable pub window : Window

@@ -13,7 +13,7 @@ use Rattle.theory.specs.Forms.{value}
 use Rattle.theory.proofs.Orders.{StrictOn, counts-lawful, counts-strict}
 use Rattle.theory.proofs.Demands.{Samples}
 use Rattle.theory.proofs.Walks as walks
-use Rattle.values.specs.Parts.{smallestIn}
+use Rattle.values.specs.Private.{smallestIn}
 
 strict : StrictOn counts (λ n. Unit {0})
 strict a b p q = counts-strict a b

@@ -1,2 +1,2 @@
--- What the contracts of the value of a form cite.
-pub mod Parts
+-- What private contracts alone cite; the value of a form is in theory/specs.
+pub mod Private

@@ -12,7 +12,7 @@ ghost use Rattle.limits.specs.Limits.{width, top};
 ghost use Rattle.theory.specs.Sets.{has};
 ghost use Rattle.theory.specs.Orders.{counts};
 ghost use Rattle.theory.specs.Forms.{value as valueOf};
-ghost use Rattle.values.specs.Parts.{smallestIn};
+ghost use Rattle.values.specs.Private.{smallestIn};
 
 // The value where the term has position i; else the top, which makes no smallest smaller. The test is one of numbers as short as the
 // values, so that as many terms are taken at a time.

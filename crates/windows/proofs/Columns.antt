@@ -18,8 +18,12 @@ use Rattle.theory.proofs.Lists.{first-at}
 use Rattle.theory.proofs.Sets.{positions-at}
 use Rattle.theory.proofs.Offsets.{leftmost-column}
 use Rattle.theory.proofs.Signals.{Fair, window-fair}
-use Rattle.windows.specs.Columns.{positionIn, leastColumn}
+use Rattle.windows.specs.Columns.{positionIn}
 use Rattle.windows.proofs.Searches.{first-passes, first-before}
+
+-- the least column in which a position of the set stands; the width where none does
+abbrev pub leastColumn : ℕ → ℕ
+leastColumn B = first (λ k. has B (positionIn k)) width
 
 -- ---- any fair window
 
@@ -70,7 +74,7 @@ module _ (B : ℕ) where
 
   -- the least offset is that of the least column
   pub least-there : leastColumn B < width → leftmost (offsets window B) ≡ subℕ (leastColumn B) reach
-  unfolding leastColumn wide window in-column
+  unfolding wide window in-column
   least-there h =
       leftmost-column window window-fair B (leastColumn B) h
       (stands-in B (leastColumn B) h (first-passes in-column width h))
@@ -78,5 +82,5 @@ module _ (B : ℕ) where
 
   -- where there is none, the set has no offsets
   pub least-none : width ≤ leastColumn B → offsets window B ≡ []
-  unfolding leastColumn wide window in-column
+  unfolding wide window in-column
   least-none h = no-column window window-fair B (λ k l. stands-in B k l (first-before in-column width k (omega arith)))

@@ -6,12 +6,15 @@
 use limits::REACH;
 use limits::WIDTH;
 ghost use mathlib.Core.Path.{_≡_};
-ghost use Prim.Native.Nat.{_≤_, _<_};
+ghost use Prim.Native.Nat.{_-_, _≤_, _<_};
 ghost use lib.IntN.{subℕ};
+ghost use lib.ListN.{length, getD};
 ghost use lib.Signed.{mag};
 ghost use Rattle.limits.specs.Limits.{reach, width};
-ghost use Rattle.theory.specs.Signals.{held, before, after, window, offsets, leftmost, rightmost};
-ghost use Rattle.windows.specs.Columns.{positionIn, leastColumn};
+ghost use Rattle.theory.specs.Lists.{first};
+ghost use Rattle.theory.specs.Sets.{has};
+ghost use Rattle.theory.specs.Signals.{window, offsets, leftmost, rightmost};
+ghost use Rattle.windows.specs.Columns.{positionIn};
 
 // ---- beyond the ends
 
@@ -23,8 +26,8 @@ pub struct Beyond {
 
 // Held ends: the first sample stands left of the scan, and the last one right of it; 0 where there is none.
 pub fn hold_ends(scan: &[u16]) -> Beyond
-    ensures { λ r. ⌜ (r .left ≡ before 0 held (now (scan .entry)))
-        × (r .right ≡ after 0 held (now (scan .entry))) ⌝ }
+    ensures { λ r. ⌜ (r .left ≡ getD (now (scan .entry)) 0 0)
+        × (r .right ≡ getD (now (scan .entry)) (length (now (scan .entry)) - 1) 0) ⌝ }
 {
     let n = scan.len();
     if n == 0 {
@@ -55,7 +58,7 @@ pub fn position(column: usize) -> usize
 
 // The least column in which a position of the set stands; the number of columns where none does.
 pub fn least_column(set: u16) -> usize
-    ensures { λ r. ⌜ r ≡ leastColumn set ⌝ }
+    ensures { λ r. ⌜ r ≡ first (λ k. has set (positionIn k)) width ⌝ }
 {
     let mut k: usize = 0;
     while k < WIDTH {

@@ -13,11 +13,11 @@ use lib.Dec.{leb, eqb}
 use borrow.Author.Tests.{leb-true, eqb-true}
 use Rattle.limits.specs.Limits.{width, top}
 use Rattle.theory.specs.Lists.{all, any, keep, tab, from, bit}
-use Rattle.theory.specs.Sets.{has, gather, within, positions}
+use Rattle.theory.specs.Sets.{has, gather, isSet, within, positions}
 use Rattle.theory.specs.Orders.{larger, smaller, largest, smallest, counts}
 use Rattle.theory.specs.Ranks.{insert, falling, ranked, pick}
 use Rattle.theory.specs.Forms.{holds, value}
-use Rattle.theory.specs.Signals.{held, before, after, between, endless, window, wide, offset, offsets, size, seen, cleaned, spread, sameZ, leftmost, rightmost}
+use Rattle.theory.specs.Signals.{held, between, endless, window, wide, offset, offsets, size, seen, cleaned, spread, leftmost, rightmost}
 use Rattle.theory.proofs.Tests.{and-left, and-right}
 use Rattle.theory.proofs.Lists.{all-at, tab-cong}
 use Rattle.theory.proofs.Canon.{isForm, is-form, sound, sound-valid, valid-terms, alike}
@@ -26,8 +26,8 @@ use Rattle.refusals.specs.declared.Checked.{Checked}
 use Rattle.refusals.specs.declared.Checked.the-variants as checked
 use Rattle.recipes.specs.Steps.{decodedOf, stepAt, rankFits, oddSet}
 use Rattle.recipes.specs.Machine.{added, replaced, joined, eroded, dilated, rankedBy, act, signals, bothReach, reaches}
-use Rattle.recipes.specs.Judge.{isNear, inReach, lastIn, onward, stepped, judgedFrom, judged, badLength, recipeChecked}
-use Rattle.recipes.specs.Meaning.{theOne, done, run, made, valueAt, truthOf}
+use Rattle.recipes.specs.Judge.{inReach, onward, stepped, judgedFrom, badLength, recipeChecked}
+use Rattle.recipes.specs.Meaning.{done, run, made, valueAt, truthOf}
 use Rattle.runner.specs.Run.{ran}
 use Rattle.compiler.specs.Compile.{compiledForm}
 use Rattle.worked.specs.Cases.{Case, compiles, cleans, runs, Claim, cases}
@@ -86,10 +86,10 @@ passes (runs recipe scan out) = isFine (recipeChecked recipe) && sameList (ran h
 
 tested : all passes cases ≡ true
 unfolding passes isFine sameList allSmall values isForm sound alike all any keep tab from bit has gather within positions
-    larger smaller largest smallest insert falling ranked pick holds value before after between endless window wide offset offsets size seen
-    spread sameZ leftmost rightmost decodedOf stepAt rankFits oddSet added replaced joined eroded dilated rankedBy act signals
+    larger smaller largest smallest insert falling ranked pick holds value between endless window wide offset offsets size seen
+    spread isSet leftmost rightmost decodedOf stepAt rankFits oddSet added replaced joined eroded dilated rankedBy act signals
     bothReach reaches
-    isNear inReach lastIn onward stepped judgedFrom judged badLength recipeChecked theOne bind done run made valueAt truthOf ran
+    inReach onward stepped judgedFrom badLength recipeChecked bind done run made valueAt truthOf ran
 tested = refl
 
 passes-claim : (c : Case) → passes c ≡ true → Claim c

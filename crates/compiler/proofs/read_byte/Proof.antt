@@ -6,7 +6,7 @@ use mathlib.Core.Path.{refl, _∙_}
 use Rattle.limits.specs.Limits.{byteBits}
 use Rattle.theory.proofs.Fills.{Filled, fill-none, fill-more}
 use Rattle.tables.proofs.Bytes.{filled-gather}
-use Rattle.compiler.specs.Patterns.{middleOf}
+use Rattle.compiler.specs.Private.{middleOf}
 use Rattle.compiler.proofs.read_byte.Statement.{statement}
 use Rattle.compiler.proofs.read_byte.Tie as tie
 

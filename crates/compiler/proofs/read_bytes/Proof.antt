@@ -5,7 +5,7 @@ use native.Mathlib.Omega.{arith}
 use lib.ListN.{length}
 use Rattle.theory.specs.Tables.{tableOf}
 use Rattle.theory.proofs.Fills.{Filled, fill-none, fill-more, fill-all}
-use Rattle.compiler.specs.Patterns.{middleOf}
+use Rattle.compiler.specs.Private.{middleOf}
 use Rattle.tables.proofs.Bytes.{byteOf}
 use Rattle.compiler.proofs.read_bytes.Statement.{statement}
 use Rattle.compiler.proofs.read_bytes.Tie as tie

@@ -4,7 +4,7 @@ use Prim.Native.Nat.{_-_}
 use native.Mathlib.Omega.{arith}
 use lib.ListN.{length}
 use Rattle.theory.proofs.Fills.{Filled, fill-none, fill-more, fill-all}
-use Rattle.compiler.specs.Patterns.{sampleOf}
+use Rattle.compiler.specs.Private.{sampleOf}
 use Rattle.compiler.proofs.show_pattern.Statement.{statement}
 use Rattle.compiler.proofs.show_pattern.Tie as tie
 

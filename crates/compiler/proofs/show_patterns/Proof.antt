@@ -6,7 +6,7 @@ use mathlib.Core.Path.{_≡_, refl}
 use lib.ListN.{length}
 use Rattle.limits.specs.Limits.{width}
 use Rattle.theory.proofs.Fills.{Filled, fill-none, fill-all}
-use Rattle.compiler.specs.Patterns.{sampleAt}
+use Rattle.compiler.specs.Private.{sampleAt}
 use Rattle.compiler.proofs.Batches.{pattern-filled}
 use Rattle.compiler.proofs.show_patterns.Statement.{statement}
 use Rattle.compiler.proofs.show_patterns.Tie as tie

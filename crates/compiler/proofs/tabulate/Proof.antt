@@ -10,7 +10,7 @@ use Rattle.theory.specs.Tables.{tableOf}
 use Rattle.theory.proofs.Fills.{Filled, fill-none, fill-all}
 use Rattle.tables.proofs.Bytes.{byteOf}
 use Rattle.recipes.specs.Meaning.{truthOf}
-use Rattle.compiler.specs.Patterns.{byteSamples, batchSamples}
+use Rattle.compiler.specs.Private.{byteSamples, batchSamples}
 use Rattle.compiler.proofs.Batches.{batch-fits, batch-kept, batch-filled}
 use Rattle.compiler.proofs.tabulate.Statement.{statement}
 use Rattle.compiler.proofs.tabulate.Tie as tie

@@ -4,7 +4,7 @@ use borrow.Author.Needs.{needs}
 use native.Mathlib.Omega.{arith}
 use mathlib.Core.Path.{_∙_}
 use Rattle.theory.proofs.Signs.{read-back, read-as}
-use Rattle.recipes.specs.Parts.{erodedReach}
+use Rattle.recipes.specs.Private.{erodedReach}
 use Rattle.recipes.proofs.Reaches.{moved-by}
 use Rattle.recipes.proofs.erode_reach.Statement.{statement}
 use Rattle.recipes.proofs.erode_reach.Tie as tie

@@ -2,6 +2,7 @@
 -- Assumes nothing.
 use borrow.Author.Needs.{needs}
 use Rattle.recipes.specs.Judge.{inReach}
+use Rattle.recipes.proofs.Reaches.{near-by}
 use Rattle.recipes.proofs.is_in_reach.Statement.{statement}
 use Rattle.recipes.proofs.is_in_reach.Tie as tie
 
@@ -13,7 +14,7 @@ is-near-requires-2 c κs = search needs
 
 returns : tie.Need-returns
 unfolding inReach
-returns c = rw (c .before .before .is-near .ensures, c .is-near2 .ensures) (search needs)
+returns c = rw (c .before .before .is-near .ensures, c .is-near2 .ensures, near-by, near-by) (search needs)
 
 pub is-in-reach-spec : {M : Type 1} → statement M
 is-in-reach-spec = tie.close (tie.spec is-near-requires is-near-requires-2 returns)

@@ -1,7 +1,7 @@
 -- `is_near` meets its contract: the number that is tested is read back as it is.
 -- Assumes nothing.
 use borrow.Author.Needs.{needs}
-use Rattle.recipes.specs.Judge.{isNear}
+use Rattle.recipes.specs.Private.{isNear}
 use Rattle.recipes.proofs.is_near.Statement.{statement}
 use Rattle.recipes.proofs.is_near.Tie as tie
 

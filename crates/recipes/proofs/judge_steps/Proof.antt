@@ -4,7 +4,7 @@ use borrow.Author.Tests.{not-true, not-false}
 use Prim.Native.Nat.{_-_, _≤_}
 use native.Mathlib.Omega.{arith}
 use mathlib.Core.Path.{sym, ap, _∙_}
-use Rattle.recipes.specs.Parts.{refusalIn}
+use Rattle.recipes.specs.Private.{refusalIn}
 use Rattle.recipes.proofs.Turns.{AtStep, Turn, at-start, turn-bad, turn-end, turn-few, turn-ninth, turn-far, turn-on}
 use borrow.Author.Needs.{needs}
 use Rattle.recipes.proofs.judge_steps.Statement.{statement}

@@ -6,7 +6,7 @@ use lib.IntN.{pos}
 use lib.ListN.{length}
 use Rattle.theory.specs.Lists.{tab}
 use Rattle.theory.proofs.Fills.{Filled, fill-none, fill-all}
-use Rattle.runner.specs.Pieces.{madeBetween, valuesBetween}
+use Rattle.runner.specs.Private.{madeBetween, valuesBetween}
 use Rattle.runner.proofs.Pieces.{filled-piece}
 use Rattle.runner.proofs.fill.Statement.{statement}
 use Rattle.runner.proofs.fill.Tie as tie

@@ -2,7 +2,7 @@
 use borrow.Author.Needs.{needs}
 use mathlib.Core.Path.{refl, subst}
 use Rattle.runner.specs.declared.Work.{Work}
-use Rattle.runner.specs.Stacks.{Ready}
+use Rattle.runner.specs.Private.{Ready}
 use Rattle.runner.proofs.perform.Statement.{statement}
 use Rattle.runner.proofs.perform.Tie as tie
 

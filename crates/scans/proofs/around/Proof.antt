@@ -4,7 +4,7 @@ use Prim.Native.Nat.{_-_}
 use native.Mathlib.Omega.{arith}
 use Rattle.limits.specs.Limits.{width}
 use Rattle.theory.proofs.Fills.{Filled, fill-none, fill-more, fill-all}
-use Rattle.scans.specs.Around.{view}
+use Rattle.scans.specs.Private.{view}
 use Rattle.scans.proofs.around.Statement.{statement}
 use Rattle.scans.proofs.around.Tie as tie
 

@@ -4,7 +4,7 @@ use Prim.Native.Nat.{_-_}
 use native.Mathlib.Omega.{arith}
 use lib.ListN.{length}
 use Rattle.theory.proofs.Fills.{Filled, fill-none, fill-more}
-use Rattle.scans.specs.Around.{valueAround}
+use Rattle.scans.specs.Private.{valueAround}
 use Rattle.scans.proofs.Fills.{fill-whole}
 use Rattle.scans.proofs.fill.Statement.{statement}
 use Rattle.scans.proofs.fill.Tie as tie

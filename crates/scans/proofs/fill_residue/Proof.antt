@@ -5,7 +5,7 @@ use native.Mathlib.Omega.{arith}
 use lib.ListN.{length}
 use Rattle.theory.proofs.Fills.{Filled, fill-none, fill-more}
 use Rattle.theory.proofs.Signs.{read-as}
-use Rattle.scans.specs.Around.{restAround}
+use Rattle.scans.specs.Private.{restAround}
 use Rattle.scans.proofs.Fills.{fill-whole}
 use Rattle.scans.proofs.fill_residue.Statement.{statement}
 use Rattle.scans.proofs.fill_residue.Tie as tie

@@ -9,7 +9,7 @@ use mathlib.Core.Path.{_≡_}
 use lib.ListN.{length}
 use Rattle.theory.proofs.Lists.{first-at, any-below-at, any-below-none}
 use Rattle.scans.specs.Run.{differs, rootFound}
-use Rattle.scans.specs.Around.{valueAround}
+use Rattle.scans.specs.Private.{valueAround}
 use Rattle.scans.proofs.find_difference.Statement.{statement}
 use Rattle.scans.proofs.find_difference.Tie as tie
 

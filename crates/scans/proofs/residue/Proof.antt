@@ -5,7 +5,6 @@ use native.Mathlib.Omega.{arith}
 use lib.ListN.{getD}
 use lib.IntN.{ℤ, pos, _-ℤ_}
 use Rattle.theory.specs.Signals.{residueAt}
-use Rattle.scans.specs.Run.{residues}
 use Rattle.theory.proofs.Demands.{Samples}
 use Rattle.scans.proofs.Fine.{run-fine, run-gives, run-refuses}
 use Rattle.scans.proofs.residue.Statement.{statement}
@@ -34,7 +33,7 @@ same-length : tie.Need-same-length
 same-length c = search needs
 
 returns : tie.Need-returns
-unfolding residues residueAt
+unfolding residueAt
 returns c =
     let filled = c .before in
     let beyond = filled .before .before in

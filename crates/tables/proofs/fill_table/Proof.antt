@@ -8,7 +8,6 @@ use Rattle.theory.specs.Lists.{tab}
 use Rattle.theory.specs.Forms.{holds}
 use Rattle.theory.specs.Tables.{tableOf}
 use Rattle.theory.proofs.Fills.{Filled, fill-none, fill-more, fill-all}
-use Rattle.tables.specs.Tables.{tableIn}
 use Rattle.tables.proofs.Bytes.{byteOf}
 use Rattle.tables.proofs.fill_table.Statement.{statement}
 use Rattle.tables.proofs.fill_table.Tie as tie
@@ -41,7 +40,7 @@ same-length : tie.Need-same-length Inv-loop μ-loop
 same-length c = search needs
 
 returns : tie.Need-returns Inv-loop μ-loop
-unfolding tableIn tableOf
+unfolding tableOf
 returns c =
     let at = c .before in
     let s = at .before .before .before in

@@ -4,13 +4,11 @@ use native.Mathlib.Omega.{arith}
 use mathlib.Core.Path.{sym}
 use lib.ListN.{length}
 use Prim.Native.Nat.{_-_}
-use Rattle.theory.specs.Signals.{before, after}
 use Rattle.theory.proofs.Lists.{getD-beyond}
 use Rattle.windows.proofs.hold_ends.Statement.{statement}
 use Rattle.windows.proofs.hold_ends.Tie as tie
 
 returns : tie.Need-returns
-unfolding before after
 returns c =
     let scan = c .before .args .scan .now in
     (sym (getD-beyond scan 0 0 (omega arith)), sym (getD-beyond scan (length scan - 1) 0 (omega arith)))
@@ -28,7 +26,6 @@ shared-slice-read-right : tie.Need-shared-slice-read-right
 shared-slice-read-right c = search needs
 
 returns-2 : tie.Need-returns-2
-unfolding before after
 returns-2 c = search needs
 
 pub hold-ends-spec : {M : Type 1} → statement M

@@ -8,7 +8,7 @@ use mathlib.Core.Bool.{false}
 use Rattle.limits.specs.Limits.{width}
 use Rattle.theory.specs.Sets.{has}
 use Rattle.theory.proofs.Lists.{first-at, first-none}
-use Rattle.windows.specs.Columns.{positionIn, leastColumn}
+use Rattle.windows.specs.Columns.{positionIn}
 use Rattle.windows.proofs.Columns.{found-in}
 use Rattle.windows.proofs.least_column.Statement.{statement}
 use Rattle.windows.proofs.least_column.Tie as tie
@@ -29,7 +29,6 @@ has-requires : tie.Need-has-requires Inv-loop μ-loop
 has-requires c κs = search needs
 
 returns : tie.Need-returns Inv-loop μ-loop
-unfolding leastColumn
 returns c =
     let asked = c .before in
     let placed = asked .before in
@@ -51,7 +50,6 @@ loop-again c =
     (search needs, below-more _ _ (at .loop .inv .1) (found-in _ _ (asked .has .ensures) (placed .position .ensures) (c .if1 .left)))
 
 returns-2 : tie.Need-returns-2 Inv-loop μ-loop
-unfolding leastColumn
 returns-2 c = sym (first-none _ width (λ j l. c .before .loop .inv .1 j (omega arith)))
 
 pub least-column-spec : {M : Type 1} → statement M

@@ -1,4 +1,4 @@
--- Only private contracts cite this file: what a form sees and gives around a sample of a scan that stands between two values.
+-- Only private contracts cite this: what a form sees and gives around a sample of a scan that stands between two values.
 use mathlib.Core.List.{List}
 use Prim.Native.Nat.{ℕ}
 use lib.IntN.{ℤ, pos, _-ℤ_}

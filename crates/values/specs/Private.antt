@@ -1,4 +1,4 @@
--- Only private contracts cite this file: the smallest over some of a term's positions.
+-- Only private contracts cite this: the smallest over some of a term's positions.
 use mathlib.Core.List.{List}
 use Prim.Native.Nat.{ℕ}
 use lib.ListN.{getD}

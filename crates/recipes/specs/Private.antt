@@ -1,10 +1,12 @@
--- Only the contracts of private functions cite this file: the steps of a range of codes, and document 01's column "Reach" row by row.
-use Prim.Native.Nat.{ℕ, _*_, _≤_}
-use mathlib.Core.Bool.{cond}
+-- Only private contracts cite this: the steps of a range of codes, all steps judged, and document 01's column "Reach" row by row.
+use Prim.Native.Nat.{ℕ, _*_, _/_, _≤_}
+use mathlib.Core.Bool.{Bool, cond, _&&_}
+use mathlib.Core.List.{List, []}
 use lib.Dec.{eqb}
-use lib.IntN.{ℤ, _+ℤ_, _-ℤ_}
-use lib.Signed.{mag}
-use Rattle.limits.specs.Limits.{reach}
+use lib.IntN.{ℤ, pos, negℤ, _+ℤ_, _-ℤ_}
+use lib.ListN.{length}
+use lib.Signed.{mag, leZ}
+use Rattle.limits.specs.Limits.{reach, stepBytes}
 use Rattle.theory.specs.Signals.{window, offsets, leftmost, rightmost}
 use Rattle.refusals.specs.declared.Checked.{Checked}
 use Rattle.refusals.specs.declared.Checked.the-variants as checked
@@ -13,7 +15,8 @@ use Rattle.recipes.specs.declared.Step.the-variants.{Signal, Erode, Dila
 use Rattle.recipes.specs.declared.Decoded.{Decoded}
 use Rattle.recipes.specs.declared.Decoded.the-variants.{Good, Bad}
 use Rattle.recipes.specs.declared.Reach.{Reach}
-use Rattle.recipes.specs.Machine.{origin, bothReach}
+use Rattle.recipes.specs.Machine.{bothReach}
+use Rattle.recipes.specs.Judge.{judgedFrom}
 
 -- the step of a code from 1 to 4
 abbrev pub changeOf : ℕ → ℕ → Step
@@ -27,6 +30,18 @@ joinOf code = cond (eqb code 7) Larger Smaller
 abbrev pub refusalIn : Decoded → Checked
 refusalIn (Good s) = checked.Fine
 refusalIn (Bad why) = checked.Refused why
+
+-- all the steps of a recipe, judged
+unfoldable pub judged : List ℕ → Checked
+judged r = judgedFrom r (length r / stepBytes) 0 []
+
+-- -4 to 4
+unfoldable pub isNear : ℤ → Bool
+isNear z = leZ (negℤ (pos reach)) z && leZ z (pos reach)
+
+-- the reach of the scan: 0 to 0
+abbrev pub origin : Reach
+origin = record { lo = pos 0; hi = pos 0 }
 
 -- a number of at most n times the reach: sums of a few of these do not wrap
 abbrev pub Near : ℕ → ℤ → Type 0

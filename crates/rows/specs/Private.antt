@@ -1,26 +1,74 @@
--- What the private passes go by: the shifts at which a set is read in a row that is widened, and rows that fall at each index.
+-- Only private contracts cite this: sizes, parts of rows, the shifts at which a set is read in a row that is widened, and rows that fall at
+-- each index.
 use mathlib.Core.Path.{_≡_}
-use mathlib.Core.Bool.{Bool, true, cond}
+use mathlib.Core.Bool.{Bool, true, false, cond}
 use mathlib.Core.List.{List, map}
 use Prim.Native.Nat.{ℕ, suc, _+_, _-_, _*_, _≤_, _<_}
+use lib.IntN.{ℤ, negℤ}
 use lib.ListN.{length, getD, take}
-use Rattle.limits.specs.Limits.{width}
+use Rattle.limits.specs.Limits.{reach, width}
 use Rattle.theory.specs.Lists.{tab}
-use Rattle.theory.specs.Sets.{positions}
-use Rattle.theory.specs.Orders.{counts}
-use Rattle.theory.specs.Ranks.{Pick, insert, falling, pick}
+use Rattle.theory.specs.Sets.{positions, isSet}
+use Rattle.theory.specs.Orders.{counts, larger, smaller}
+use Rattle.theory.specs.Ranks.{Pick, the-smallest, the-largest, insert, falling, pick}
 use Rattle.theory.specs.Signals.{window}
-use Rattle.rows.specs.Sizes.{opening}
+use Rattle.rows.specs.Sizes.{opening, longestRow}
 use Rattle.rows.specs.declared.Change.{Change}
 use Rattle.rows.specs.Rows.{isWider, widened}
-use Rattle.rows.specs.Changes.{isSet, lastRead, afterChange}
+use Rattle.rows.specs.Changes.{isSound, lastRead, afterChange}
+
+-- ---- sizes; src/lib.rt has the same numbers
+
+-- a row has so many values more than its piece of the scan: the reach on either side
+abbrev pub margin : ℕ
+margin = reach + reach
+
+-- a row is of a piece of at most so many samples
+abbrev pub pieceSamples : ℕ
+pieceSamples = longestRow - margin
+
+-- so many of them are to be filled, the others being the reach on either side
+abbrev pub piece : ℕ
+piece = pieceSamples - 2 * reach
+
+-- the room for the longest row, widened by an opening
+abbrev pub longestRoom : ℕ
+longestRoom = longestRow + 2 * opening
+
+-- the room for a row to each position of a set, sorted
+abbrev pub sortedRows : ℕ
+sortedRows = width * longestRow
+
+-- ---- parts of a row, and two values
+
+-- n values of src, from an index on
+unfoldable pub part : ℕ → ℕ → List ℕ → List ℕ
+part n from src = tab n (λ j. getD src (j + from) 0)
+
+-- the larger or the smaller of two
+unfoldable pub chosen : Bool → ℕ → ℕ → ℕ
+chosen high a b = cond high (larger counts a b) (smaller counts a b)
 
 -- ---- a row and a set
+
+-- the smallest, or the largest
+abbrev pub extreme : Bool → Pick
+extreme false = the-smallest
+extreme true = the-largest
+
+-- some offsets as they are, or mirrored
+abbrev pub turned : Bool → List ℤ → List ℤ
+turned false bs = bs
+turned true bs = map negℤ bs
+
+-- a sound change
+abbrev pub Sound : Change → Type 0
+Sound by = isSound by ≡ true
 
 -- a set of positions, and room for the row widened by an opening
 pub record Roomy (row room : List ℕ) (B : ℕ) : Type 0 where
   pub wide : isWider opening row room ≡ true
-  pub set : isSet B ≡ true
+  pub set : isSet width B ≡ true
 
 -- a row is changed, and the room has what was read last, widened
 pub record Applied (by : Change) (l r : ℕ) (row row′ room′ : List ℕ) : Type 0 where

@@ -11,7 +11,7 @@ use Rattle.theory.specs.Sets.{has}
 use Rattle.refusals.specs.declared.Checked.the-variants.{Fine}
 use Rattle.windows.specs.Columns.{positionIn}
 use Rattle.recipes.specs.Judge.{recipeChecked}
-use Rattle.rows.specs.Sizes.{piece}
+use Rattle.rows.specs.Private.{piece}
 
 -- the samples that show the patterns of a byte of the truth table
 abbrev pub byteSamples : ℕ
