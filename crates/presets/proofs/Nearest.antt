@@ -10,7 +10,8 @@ use Rattle.limits.specs.Limits.{byteBits}
 use Rattle.theory.specs.Lists.{bit}
 use Rattle.theory.specs.Sets.{has, gather, within}
 use Rattle.theory.specs.Signals.{window, wide, offset, spread}
-use Rattle.theory.proofs.Sets.{gather-lt, has-gather, gather-cong, same-bits, within-by, within-has}
+use Rattle.theory.proofs.Tests.{same-test, not-both}
+use Rattle.theory.proofs.Sets.{gather-lt, has-gather, gather-cong, same-bits, has-lt, within-by, within-has}
 use Rattle.theory.proofs.Signals.{window-fair}
 use Rattle.theory.proofs.Truth.{spread-at}
 use Rattle.tables.proofs.Bytes.{byteOf}
@@ -72,3 +73,41 @@ pub table-byte : (t j : ℕ) → byteOf (onWindow t) j ≡ cond (has t (j % thre
 unfolding onWindow
 table-byte t j =
     gather-cong byteBits _ (λ i. has t (j % threePatterns)) (λ i l. ap (has t) (near-byte j i l)) ∙ repeated (has t (j % threePatterns))
+
+-- ---- a pattern of the three samples, moved to where they stand
+
+abbrev pub moved : ℕ → ℕ
+moved u = threePatterns * u
+
+pub near-moved : (u : ℕ) → u < threePatterns → nearIn (moved u) ≡ u
+near-moved u l = ap nearIn (omega arith) ∙ near-byte u 0 (omega arith) ∙ omega arith
+
+third : (i : ℕ) → nearest + i ≡ suc (suc (suc i))
+third i = omega arith
+
+has-moved : (u i : ℕ) → has (moved u) (suc (suc (suc i))) ≡ has u i
+unfolding has
+has-moved u i = let e : threePatterns * u / 2 / 2 / 2 ≡ u = omega arith in ap (λ (v : ℕ). has v i) e
+
+-- it is within a pattern exactly where it is within what that has there
+pub within-moved : (u v : ℕ) → u < threePatterns → within (moved u) v ≡ within u (nearIn v)
+unfolding has
+within-moved u v small =
+    same-test
+    (λ e. within-by three u (nearIn v) small (λ i l h. stood i l ∙ within-has (moved u) v e (suc (suc (suc i))) (has-moved u i ∙ h)))
+    (λ e. within-by (nearest + three) (moved u) v (omega arith) (λ i l h. back e i h))
+  where
+    stood : (i : ℕ) → i < three → has (nearIn v) i ≡ has v (suc (suc (suc i)))
+    stood i l = has-near v i l ∙ ap (has v) (third i)
+
+    -- it has nothing below that place
+    below : (i m : ℕ) → m % 2 ≡ 0 → odd (m % 2) ≡ true → has v i ≡ true
+    below i m e h = absurd (not-both h (ap odd e))
+
+    back : within u (nearIn v) ≡ true → (i : ℕ) → has (moved u) i ≡ true → has v i ≡ true
+    back e zero h = below 0 (moved u) (omega arith) h
+    back e (suc zero) h = below 1 (moved u / 2) (omega arith) h
+    back e (suc (suc zero)) h = below 2 (moved u / 2 / 2) (omega arith) h
+    back e (suc (suc (suc i))) h =
+        let q = sym (has-moved u i) ∙ h in
+        sym (stood i (has-lt three u i small q)) ∙ within-has u (nearIn v) e i q

@@ -38,11 +38,15 @@ unfolding presetTables
 ascending i j l h = subst (λ (ts : List ℕ). j < length ts → getD ts i 0 < getD ts j 0) rule (keep-rises steady 0 eightBitTables i j l) h
 
 -- each is positive on three samples
+pub member-positive : (t : ℕ) → List·Memᴰ t presetTables → Positive three (has t)
+unfolding steady
+member-positive t m =
+    let kept = subst (λ (ts : List ℕ). List·Memᴰ t ts) (sym rule) m in
+    fine-positive three (has t) (not-true _ (keep-at steady (from 0 eightBitTables) kept .1))
+
 pub entry-positive : (i : ℕ) → i < presets → Positive three (has (getD presetTables i 0))
-unfolding presetTables steady
-entry-positive i l =
-    let m = subst (λ (ts : List ℕ). List·Memᴰ (getD presetTables i 0) ts) (sym rule) (index-mem 0 presetTables i l) in
-    fine-positive three (has (getD presetTables i 0)) (not-true _ (keep-at steady (from 0 eightBitTables) m .1))
+unfolding presetTables
+entry-positive i l = member-positive _ (index-mem 0 presetTables i l)
 
 -- every positive one stands there
 pub complete : (t : ℕ) → t < eightBitTables → Positive three (has t) → List·Memᴰ t presetTables

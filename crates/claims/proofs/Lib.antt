@@ -1,0 +1,6 @@
+-- The claims, and what they cite beyond the crates below.
+pub mod Outcomes
+pub mod Chain
+pub mod Filters
+pub mod Ranks
+pub mod Claims
