@@ -10,7 +10,7 @@ from chance import Chance, accepted_recipe, any_form, damaged_form, recipe_of, s
 from groups.forms import LONGEST_FORM
 from groups.recipes import closing, dilate, erode, median, opening, rank, signal, smaller
 from groups.scans import MEDIAN_3, MEDIAN_5, dual, mirrored, runs
-from rules import files, forms, limits, recipes, scans
+from rules import files, forms, limits, lines, recipes, scans
 from rules.forms import number_of
 from rules.limits import (LARGEST_SET, LONGEST_RECIPE, MOST_SAMPLES, MOST_SIGNALS, MOST_STEPS,
                           MOST_TERMS, PRESETS, REACH, TABLE_BYTES, TOP, WIDTH)
@@ -58,7 +58,8 @@ class ScopeDocument(Case):
         self.assertEqual((TABLE_BYTES, MOST_TERMS), (64, 126))
         self.assertEqual((MOST_SAMPLES, TOP), (16384, 65535))
         self.assertEqual((MOST_STEPS, LONGEST_RECIPE, MOST_SIGNALS, PRESETS), (32, 128, 8, 20))
-        self.assertEqual((limits.TRAILER_BYTES, limits.LONGEST_FILE), (12, 33032))
+        self.assertEqual((limits.TRAILER_BYTES, limits.LONGEST_FILE, limits.LINE_BYTES),
+                         (12, 33032, 128))
 
     def test_forms_of_recipes(self):
         self.assertEqual(form(signal), [16])
@@ -104,6 +105,8 @@ class ScopeDocument(Case):
                              "1C 00 00 00 12 00 00 00 03 00 53 46")
         self.assertEqual(files.count(file), (5, 1, 1, 80, 0))
         self.assertEqual(bytes(files.file_of([24, 40, 48], [10, 10, 90, 10, 10])), file)
+        self.assertEqual(lines.line_of(file), "5 1 1 80 0\n")
+        self.assertEqual(lines.line_of(file[1:]), "refused 11 0\n")
 
 
 class Readings(Case):
@@ -138,6 +141,13 @@ class Readings(Case):
         self.refused(6, 3, forms.preset, 10, [0, 0])
         table = [0] * TABLE_BYTES
         self.assertEqual(forms.form_to_table([24, 40, 48], table), 3)
+
+    def test_lines(self):
+        file, lent = files.file_of([16], [1]), [0] * limits.LINE_BYTES
+        self.refused(10, 128, lines.line, file, [0] * 127)
+        self.refused(10, 128, lines.line, [], [0] * 129)
+        self.assertEqual(lines.line(file, lent), 10)
+        self.assertEqual(lent, list(b"1 0 0 0 0\n") + [0] * 118)
 
     def test_preset_numbers_are_never_cut(self):
         for number in (PRESETS, 255, 256, 256 + PRESETS, 2 ** 16, 2 ** 32 - 1, 2 ** 64 - 1):
@@ -328,6 +338,7 @@ class Vectors(Case):
         "table_to_form": {0, 6, 12, 13}, "form_to_table": {0, 7, 13}, "preset": {0, 6, 14},
         "run_recipe": {0, 1, 2, 3, 4, 5, 9, 10}, "compile": {0, 1, 2, 3, 4, 5, 6},
         "write": {0, 7, 9, 10}, "read": {0, 6, 7, 9, 10, 11}, "count": {0, 7, 9, 11},
+        "line": {0, 10},
     }
 
     def test_the_stored_lines_have_every_answer_of_every_call(self):

@@ -9,11 +9,11 @@ import pathlib
 import sys
 
 from chance import Chance
-from groups import files, forms, recipes, reports, scans
+from groups import files, forms, lines, recipes, reports, scans
 from wire import END, described, line, record
 
 # The groups whose calls the program `cases` makes, in this order.
-GROUPS = [forms, scans, recipes, files, reports]
+GROUPS = [forms, scans, recipes, files, reports, lines]
 
 CASES = pathlib.Path(__file__).resolve().parent.parent / "crates" / "cases"
 

@@ -5,10 +5,10 @@ README.md describes both formats.
 
 from collections import namedtuple
 
-from rules import files, forms, recipes, scans
+from rules import files, forms, lines, recipes, scans
 from rules.refusals import Refused
 
-# ---- the twelve calls
+# ---- the thirteen calls
 
 # What an argument is. A lent slice is given as its length.
 TERMS, SCAN, BYTES, LENT_BYTES, LENT_WORDS, LENT_RESIDUES, NUMBER = range(7)
@@ -31,6 +31,7 @@ KINDS = {
     "write": Kind(10, files.write, [TERMS, SCAN, LENT_BYTES]),
     "read": Kind(11, files.read, [BYTES, LENT_WORDS, LENT_WORDS]),
     "count": Kind(12, files.count, [BYTES]),
+    "line": Kind(13, lines.line, [BYTES, LENT_BYTES]),
 }
 
 Call = namedtuple("Call", "name arguments")

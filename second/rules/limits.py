@@ -39,5 +39,8 @@ def file_bytes(samples, terms):
 
 LONGEST_FILE = file_bytes(MOST_SAMPLES, MOST_TERMS)
 
+# What is lent for the report's line.
+LINE_BYTES = 128
+
 # What a term, or the number of terms, can be made to say.
 LARGEST_WORD = 2 ** 16 - 1

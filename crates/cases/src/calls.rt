@@ -13,7 +13,7 @@ pub fn make(call: u16, terms: &[u16], scan: &[u16], bytes: &[u8]) {
     match call {
         1 | 4 | 12 => ask(call, terms, scan, bytes),
         3 => lend_residues(terms, scan),
-        6 | 10 => lend_bytes(call, terms, scan),
+        6 | 10 | 13 => lend_bytes(call, terms, scan, bytes),
         11 => lend_samples_and_terms(bytes),
         _ => lend_words(call, terms, scan, bytes),
     }
@@ -39,21 +39,22 @@ fn count(file: &[u8]) {
 
 // ---- calls that are lent bytes
 
-fn lend_bytes(call: u16, terms: &[u16], scan: &[u16]) {
+fn lend_bytes(call: u16, terms: &[u16], scan: &[u16], bytes: &[u8]) {
     let mut lent = room::lent_bytes();
     let n = input::bytes_to_lend(&lent);
-    show_bytes(call, terms, scan, &mut lent[..n]);
+    show_bytes(call, terms, scan, bytes, &mut lent[..n]);
 }
 
-fn show_bytes(call: u16, terms: &[u16], scan: &[u16], lent: &mut [u8]) {
-    answers::answered(fill_bytes(call, terms, scan, lent));
+fn show_bytes(call: u16, terms: &[u16], scan: &[u16], bytes: &[u8], lent: &mut [u8]) {
+    answers::answered(fill_bytes(call, terms, scan, bytes, lent));
     output::bytes(lent);
 }
 
-fn fill_bytes(call: u16, terms: &[u16], scan: &[u16], lent: &mut [u8]) -> Answer {
+fn fill_bytes(call: u16, terms: &[u16], scan: &[u16], bytes: &[u8], lent: &mut [u8]) -> Answer {
     match call {
         6 => tables::form_to_table(terms, lent),
-        _ => files::write(terms, scan, lent),
+        10 => files::write(terms, scan, lent),
+        _ => lines::line(bytes, lent),
     }
 }
 

@@ -46,7 +46,7 @@ module _ {code code′ value value′ : ℕ} where
       → (code ≡ code′) × (value ≡ value′) × (new ≡ new′)
   compile-decided = told-decided (λ a b p q. gives-decided (p .gives) (q .gives))
 
-  -- the root question, reading and counting: whatever else these write, their contracts give by an equation
+  -- the form check, the root question, reading and counting: whatever else these write, their contracts give by an equation
   pub answer-decided : {answer : Answer} {X : Type 0} {x x′ known : X} → Told (λ a. a ≡ answer) code value → x ≡ known
       → Told (λ a. a ≡ answer) code′ value′ → x′ ≡ known → (code ≡ code′) × (value ≡ value′) × (x ≡ x′)
   answer-decided t e t′ e′ = told-decided (λ a b p q. (p ∙ sym q, e ∙ sym e′)) t t′

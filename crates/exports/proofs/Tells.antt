@@ -2,21 +2,20 @@
 -- reading and of counting, by the call's check.
 -- Assumes nothing.
 use Prim.Native.Nat.{ℕ}
-use mathlib.Core.Path.{_≡_, refl, sym, subst}
+use mathlib.Core.Path.{_≡_, sym, subst}
 use mathlib.Core.Bool.{true, false}
 use mathlib.Core.List.{List, [], _∷_}
 use mathlib.Core.Logic.{_⊎_, inl, inr}
 use lib.ListN.{length}
 use Rattle.theory.specs.Lists.{first, anyBelow}
-use Rattle.theory.specs.Signals.{held, filteredAt, residueAt}
+use Rattle.theory.specs.Signals.{held, filteredAt}
 use Rattle.theory.proofs.Tests.{which}
 use Rattle.theory.proofs.Lists.{first-none, any-below-no}
-use Rattle.refusals.specs.declared.Refusal.{Refusal}
 use Rattle.refusals.specs.declared.Answer.{Answer}
 use Rattle.refusals.specs.declared.Checked.{Checked}
-use Rattle.refusals.specs.declared.Checked.the-variants.{Fine, Refused}
 use Rattle.refusals.specs.Refusals.{answered, answerOf}
 use Rattle.refusals.specs.declared.Answer.the-variants.{Done}
+use Rattle.refusals.proofs.Checks.{through}
 use Rattle.scans.specs.declared.RootAnswer.{RootAnswer}
 use Rattle.scans.specs.declared.RootAnswer.the-variants as root
 use Rattle.scans.specs.Run.{Root, rootChecked, differs, rootFound}
@@ -27,19 +26,13 @@ use Rattle.files.specs.Files.{Read, readChecked, fileChecked}
 use Rattle.reports.specs.declared.Counts.{Counts}
 use Rattle.reports.specs.declared.CountAnswer.{CountAnswer}
 use Rattle.reports.specs.declared.CountAnswer.the-variants as count
-use Rattle.reports.specs.Counts.{Count, countsOf}
+use Rattle.reports.specs.Counts.{Count, countsOf, countsIn}
 use Rattle.exports.specs.Told.{Told, given, refused}
 use Rattle.exports.specs.Private.{sampleIn, samplesIn, termsIn, countedIn, fiveIn}
 
 pub told : {P : Answer → Type 0} {answer : Answer} {code value : ℕ} → P answer → Told (λ a. a ≡ answer) code value → Told P code value
 told {P = P} p (given z e) = given z (subst P (sym e) p)
 told {P = P} p (refused e) = refused (subst P (sym e) p)
-
--- what is made of an answer is made of either case
-through : {A B : Type 0} (c : Checked) (f : A → B) (a : A) (refuse : Refusal → A)
-    → f (answered c a refuse) ≡ answered c (f a) (λ r. f (refuse r))
-through Fine f a refuse = refl
-through (Refused r) f a refuse = refl
 
 -- the root question: the first sample that differs is the number of samples where none does
 sample-found : (f : ℕ → ℕ) (s : List ℕ) → sampleIn (rootFound f s) (length s) ≡ Done (first (differs f s) (length s))
@@ -74,7 +67,7 @@ module _ {f samples samples′ terms terms′ : List ℕ} {a : ReadAnswer} (done
 -- counting: the number of samples, and the five numbers
 module _ (f : List ℕ) {a : CountAnswer} (done : Count f a) where
   abbrev counts : Counts
-  counts = countsOf (length (fileSamples f)) (residueAt held (fileTerms f) (fileSamples f))
+  counts = countsIn f
 
   pub count-samples : countedIn a ≡ answerOf (fileChecked countsFamily f) (length (fileSamples f))
   unfolding countsOf

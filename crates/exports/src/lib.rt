@@ -1,18 +1,21 @@
 // The C interface: each function wraps one public call and is proved against the same promise.
 //
-// A slice is a pointer and a length; the pointer is never null, also where the length is 0. The result is 0, or the
+// A slice is a pointer and a length; where the length is 0 the pointer may be null. The result is 0, or the
 // refusal's number; `*value` is what the call returns, or the refusal's place. On refusal nothing else is written. No function has a
 // `requires`, and nothing is assumed.
 use files::ReadAnswer;
+use limits::WIDTH;
 use refusals::Answer;
 use reports::CountAnswer;
 use scans::RootAnswer;
 ghost use mathlib.Core.Path.{_≡_};
 ghost use mathlib.Core.List.{[], _∷_};
 ghost use lib.ListN.{length};
+ghost use Rattle.limits.specs.Limits.{width};
 ghost use Rattle.theory.specs.Lists.{first};
-ghost use Rattle.theory.specs.Signals.{held, filteredAt, residueAt};
+ghost use Rattle.theory.specs.Signals.{held, filteredAt};
 ghost use Rattle.refusals.specs.Refusals.{answered, answerOf, written};
+ghost use Rattle.forms.specs.Check.{formChecked};
 ghost use Rattle.tables.specs.Tables.{TableToForm, FormToTable};
 ghost use Rattle.presets.specs.Presets.{Preset};
 ghost use Rattle.scans.specs.Run.{Clean, Residue, rootChecked, differs};
@@ -20,7 +23,8 @@ ghost use Rattle.runner.specs.Run.{Run};
 ghost use Rattle.compiler.specs.Compile.{Compile};
 ghost use Rattle.files.specs.Layout.{countsFamily, fileTerms, fileSamples};
 ghost use Rattle.files.specs.Files.{Write, fileChecked, readChecked};
-ghost use Rattle.reports.specs.Counts.{countsOf};
+ghost use Rattle.reports.specs.Counts.{countsIn};
+ghost use Rattle.lines.specs.Lines.{Line};
 ghost use Rattle.exports.specs.Told.{Told};
 ghost use Rattle.exports.specs.Private.{sampleIn, samplesIn, termsIn, countedIn, fiveIn};
 
@@ -122,6 +126,18 @@ pub extern "C" fn sf_run_recipe(
     tell(runner::run(recipe, scan, out), value)
 }
 
+// Whether a list of terms is a form; see forms::check. Refuses 7, 8; the number of terms goes to `value`.
+#[no_mangle]
+pub extern "C" fn sf_check(terms: &[u16], value: &mut usize) -> u8
+    ensures { λ r. ⌜ (let form = now (terms .entry) in
+        Told (λ a. a ≡ answerOf (formChecked width form) (length form)) r (now (value .exit))) ⌝ }
+{
+    tell(
+        refusals::answer_with(forms::check(WIDTH, terms), terms.len()),
+        value,
+    )
+}
+
 // A truth table to its form; see tables::table_to_form. Refuses 13, 12, 6; the terms go to `terms`, their number to `value`.
 #[no_mangle]
 pub extern "C" fn sf_table_to_form(table: &[u8], terms: &mut [u16], value: &mut usize) -> u8
@@ -209,11 +225,20 @@ pub extern "C" fn sf_read(
 pub extern "C" fn sf_count(file: &[u8], counts: &mut [u64; 5], value: &mut usize) -> u8
     ensures { λ r. ⌜ (let f = now (file .entry) in
         let check = fileChecked countsFamily f in
-        let c = countsOf (length (fileSamples f)) (residueAt held (fileTerms f) (fileSamples f)) in
+        let c = countsIn f in
         Told (λ a. a ≡ answerOf check (length (fileSamples f))) r (now (value .exit))
         × (now (counts .exit) ≡ answered check (c .samples ∷ c .changed ∷ c .spikes ∷ c .up ∷ c .down ∷ []) (λ _. now (counts .entry)))) ⌝ }
 {
     let answer = reports::count(file);
     *counts = five_in(answer, *counts);
     tell(counted_in(answer), value)
+}
+
+// The line that the report program prints of a scan file; see lines::line. Refuses 10, of `out` alone; the line goes to `out`, its
+// length to `value`.
+#[no_mangle]
+pub extern "C" fn sf_line(file: &[u8], out: &mut [u8], value: &mut usize) -> u8
+    ensures { λ r. ⌜ Told (Line (now (file .entry)) (now (out .entry)) (now (out .exit))) r (now (value .exit)) ⌝ }
+{
+    tell(lines::line(file, out), value)
 }

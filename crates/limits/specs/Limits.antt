@@ -53,3 +53,7 @@ trailerBytes = 12
 
 abbrev pub longestFile : ℕ
 longestFile = wordBytes * mostSamples + wordBytes * mostTerms + trailerBytes
+
+-- the report's line is lent so many bytes, more than the longest has
+abbrev pub lineBytes : ℕ
+lineBytes = 128

@@ -32,3 +32,6 @@ pub const WORD_BYTES: usize = 16 / BYTE_BITS;
 pub const TRAILER: usize = 12;
 
 pub const LONGEST_FILE: usize = WORD_BYTES * MOST_SAMPLES + WORD_BYTES * MOST_TERMS + TRAILER;
+
+// The report's line is lent so many bytes, more than the longest has.
+pub const LINE_BYTES: usize = 128;

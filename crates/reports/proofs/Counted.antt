@@ -23,8 +23,7 @@ use Rattle.files.specs.Layout.{countsFamily, fileSamples, fileTerms}
 use Rattle.files.specs.Files.{fileChecked, readChecked}
 use Rattle.files.proofs.Layouts.{samples-counted, terms-counted}
 use Rattle.files.proofs.Accepts.{Readable, fine-file, slices-fine}
-use Rattle.reports.specs.Counts.{isChange, kindOf, countsOf}
-use Rattle.reports.proofs.Residues.{above, below}
+use Rattle.reports.specs.Counts.{isChange, kindOf, above, below, countsOf}
 use Rattle.reports.proofs.Sums.{sum-cong}
 use Rattle.reports.proofs.Spikes.{runs-cong}
 

@@ -1,25 +1,16 @@
 -- The difference of two counts as a residue: when it is a change, and how far it lies above or below 0.
 -- Assumes nothing.
 use mathlib.Core.Path.{_≡_}
-use mathlib.Core.Bool.{true, false, not, cond}
+use mathlib.Core.Bool.{true, false, not}
 use mathlib.Core.Logic.{_⊎_, inl, inr}
 use Prim.Native.Nat.{ℕ, suc, _-_, _≤_, _<_}
 use native.Mathlib.Omega.{arith}
 use lib.Dec.{eqb}
-use lib.IntN.{ℤ, pos, natAbs, _-ℤ_}
-use lib.Signed.{nonNeg}
+use lib.IntN.{pos, _-ℤ_}
 use borrow.Author.Tests.{eqb-true, eqb-false, ne-eqb, lt-ltb}
 use Rattle.theory.proofs.Tests.{which}
 use Rattle.theory.proofs.Differences.{side, minus-high, minus-low}
-use Rattle.reports.specs.Counts.{isChange}
-
--- a positive residue; 0 for another
-abbrev pub above : ℤ → ℕ
-above r = cond (nonNeg r) (natAbs r) 0
-
--- a negative residue with the sign dropped; 0 for another
-abbrev pub below : ℤ → ℕ
-below r = cond (nonNeg r) 0 (natAbs r)
+use Rattle.reports.specs.Counts.{isChange, above, below}
 
 pub change-difference : (a b : ℕ) → isChange (pos a -ℤ pos b) ≡ not (eqb a b)
 unfolding isChange

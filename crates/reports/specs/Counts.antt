@@ -25,6 +25,14 @@ isChange r = ltb 0 (natAbs r)
 unfoldable pub kindOf : ℤ → ℕ
 kindOf r = bit (isChange r)
 
+-- a positive residue; 0 for another
+abbrev pub above : ℤ → ℕ
+above r = cond (nonNeg r) (natAbs r) 0
+
+-- a negative residue with the sign dropped; 0 for another
+abbrev pub below : ℤ → ℕ
+below r = cond (nonNeg r) 0 (natAbs r)
+
 -- the counts of n residues: the samples, those that changed, the longest runs of them, the total of the positive residues, and that of the
 -- negative ones with the sign dropped
 unfoldable pub countsOf : ℕ → (ℕ → ℤ) → Counts
@@ -32,13 +40,14 @@ countsOf n residue = record {
   samples = n;
   changed = sum n (λ x. bit (isChange (residue x)));
   spikes = longestRuns n (λ x. kindOf (residue x));
-  up = sum n (λ x. cond (nonNeg (residue x)) (natAbs (residue x)) 0);
-  down = sum n (λ x. cond (nonNeg (residue x)) 0 (natAbs (residue x)));
+  up = sum n (λ x. above (residue x));
+  down = sum n (λ x. below (residue x));
 }
 
--- counting from the file f: 11, 7, 8, 9, or the counts of its form on its scan
+-- the counts of the form and the scan that the file f holds, the ends held
+abbrev pub countsIn : List ℕ → Counts
+countsIn f = countsOf (length (fileSamples f)) (residueAt held (fileTerms f) (fileSamples f))
+
+-- counting from the file f: 11, 7, 8, 9, or its counts
 abbrev pub Count : List ℕ → CountAnswer → Type 0
-Count f a =
-    a ≡ answered (fileChecked countsFamily f)
-    (answer.Counted (countsOf (length (fileSamples f)) (residueAt held (fileTerms f) (fileSamples f))))
-    answer.Refused
+Count f a = a ≡ answered (fileChecked countsFamily f) (answer.Counted (countsIn f)) answer.Refused

@@ -10,9 +10,9 @@ use lib.ListN.{length, getD}
 use lib.IntN.{ℤ, pos, _-ℤ_}
 use Rattle.limits.specs.Limits.{top}
 use Rattle.theory.specs.Lists.{bit, sum}
-use Rattle.reports.specs.Counts.{isChange, kindOf, countsOf}
+use Rattle.reports.specs.Counts.{isChange, kindOf, above, below, countsOf}
 use Rattle.reports.proofs.Sums.{sum-none, sum-more}
-use Rattle.reports.proofs.Residues.{above, below, change-difference, above-difference, below-difference}
+use Rattle.reports.proofs.Residues.{change-difference, above-difference, below-difference}
 use Rattle.reports.proofs.Spikes.{kindBefore, startsAt, runs-by-starts, before-next}
 use Rattle.reports.proofs.count_residues.Statement.{statement}
 use Rattle.reports.proofs.count_residues.Tie as tie
