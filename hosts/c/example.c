@@ -3,12 +3,13 @@
 #include <stdio.h>
 
 int main(void) {
-    const uint8_t recipe[] = {SF_STEP(SF_SIGNAL, 0, 0), SF_STEP(SF_MEDIAN, 0, 56)};
+    const uint8_t recipe[] = {SF_STEP(SF_SIGNAL, 0, 0),
+                              SF_STEP(SF_MEDIAN, 0, SF_OFFSET(-1) | SF_OFFSET(0) | SF_OFFSET(1))};
     uint16_t terms[SF_MOST_TERMS];
     size_t count, value;
     uint8_t refusal = sf_compile(recipe, sizeof recipe, terms, SF_MOST_TERMS, &count);
     if (refusal != 0) {
-        printf("refused %d %zu\n", refusal, count);
+        printf("refused %d %zu: %s\n", refusal, count, sf_sentence(refusal));
         return 1;
     }
     printf("the median of three has the terms");
@@ -19,7 +20,7 @@ int main(void) {
     uint16_t cleaned[5];
     refusal = sf_clean(terms, count, scan, 5, cleaned, 5, &value);
     if (refusal != 0) {
-        printf("\nrefused %d %zu\n", refusal, value);
+        printf("\nrefused %d %zu: %s\n", refusal, value, sf_sentence(refusal));
         return 1;
     }
     printf("\n10 10 90 10 10 cleaned is");
@@ -27,6 +28,6 @@ int main(void) {
         printf(" %d", cleaned[i]);
 
     refusal = sf_clean(terms, count, scan, 5, cleaned, 4, &value);
-    printf("\nwith four elements lent: refused %d %zu\n", refusal, value);
+    printf("\nwith four elements lent: refused %d %zu: %s\n", refusal, value, sf_sentence(refusal));
     return 0;
 }

@@ -1,4 +1,4 @@
-/* Every function of the C interface: an answer, each refusal, and what a lent slice keeps. */
+/* Every function of the C interface: an answer, each refusal, what a lent slice keeps, and null pointers. */
 #include "stackfilter.h"
 #include <stdio.h>
 #include <string.h>
@@ -24,11 +24,24 @@ static void same(const char *what, const void *held, const void *expected, size_
     }
 }
 
+/* Says so where something does not hold. */
+static void must(const char *what, int holds) {
+    checks++;
+    if (!holds) {
+        faults++;
+        printf("%s: does not hold\n", what);
+    }
+}
+
 /* What follows from other numbers is what the scope document says in figures. */
 _Static_assert(SF_PATTERNS == 512 && SF_TABLE_BYTES == 64, "patterns and tables");
 _Static_assert(SF_LONGEST_RECIPE == 128 && SF_LONGEST_FILE == 33032, "recipes and files");
 
-static const uint8_t MEDIAN[] = {SF_STEP(SF_SIGNAL, 0, 0), SF_STEP(SF_MEDIAN, 0, 56)};
+/* The set {-1, 0, 1}. */
+#define THREE (SF_OFFSET(-1) | SF_OFFSET(0) | SF_OFFSET(1))
+_Static_assert(THREE == 56 && SF_OFFSET(-4) == 1 && SF_OFFSET(4) == 256, "sets of offsets");
+
+static const uint8_t MEDIAN[] = {SF_STEP(SF_SIGNAL, 0, 0), SF_STEP(SF_MEDIAN, 0, THREE)};
 static const uint16_t FORM[] = {24, 40, 48}, UNSORTED[] = {24, 16};
 static const uint16_t SCAN[] = {10, 10, 90, 10, 10};
 static const uint8_t FILE_BYTES[] = {10, 0, 10, 0, 90, 0, 10, 0, 10, 0, 24, 0, 40, 0, 48, 0,
@@ -52,7 +65,7 @@ static void recipes(void) {
     expect("compile, open 504", sf_compile(wide, 8, terms, 5, &value), 5, 1);
     same("compile, refused", terms, (uint16_t[]){24, 40, 48, 4, 5}, sizeof terms);
 
-    const uint8_t opening[] = {SF_STEP(SF_SIGNAL, 0, 0), SF_STEP(SF_OPEN, 0, 56)};
+    const uint8_t opening[] = {SF_STEP(SF_SIGNAL, 0, 0), SF_STEP(SF_OPEN, 0, THREE)};
     const uint16_t ends[] = {5, 0, 0};
     uint16_t out[4] = {1, 2, 3, 4};
     expect("run_recipe, four lent", sf_run_recipe(opening, 8, ends, 3, out, 4, &value), 10, 3);
@@ -63,8 +76,52 @@ static void recipes(void) {
     same("run_recipe", out, (uint16_t[]){5, 0, 0, 4}, sizeof out);
 }
 
+/* What the header has beside the calls: steps, sets of offsets, and the causes of refusal 4. */
+static void beside(void) {
+    uint8_t step[SF_STEP_BYTES + 1] = {9, 9, 9, 9, 9};
+    const uint64_t cut = (uint64_t)1 << 32;
+    must("put_step, code 256", sf_put_step(step, 256, 0, 56) == SF_REFUSED_STEP_CODE);
+    must("put_step, code 2^32", sf_put_step(step, cut, 0, 56) == SF_REFUSED_STEP_CODE);
+    must("put_step, code -1", sf_put_step(step, (uint64_t)-1, 0, 56) == SF_REFUSED_STEP_CODE);
+    must("put_step, rank 256", sf_put_step(step, SF_RANK, 256, 56) == SF_REFUSED_STEP_FIELD);
+    must("put_step, rank 2^32 + 1", sf_put_step(step, SF_RANK, cut + 1, 56) == SF_REFUSED_STEP_FIELD);
+    must("put_step, set 65,584", sf_put_step(step, SF_MEDIAN, 0, 65584) == SF_REFUSED_STEP_FIELD);
+    must("put_step, set 65,536", sf_put_step(step, SF_MEDIAN, 0, 65536) == SF_REFUSED_STEP_FIELD);
+    must("put_step, set 2^32 + 56", sf_put_step(step, SF_MEDIAN, 0, cut + 56) == SF_REFUSED_STEP_FIELD);
+    same("put_step, refused", step, (uint8_t[]){9, 9, 9, 9, 9}, sizeof step);
+    must("put_step, the largest", sf_put_step(step, 255, 255, 65535) == 0);
+    same("put_step, the largest", step, (uint8_t[]){255, 255, 255, 255, 9}, sizeof step);
+    must("put_step", sf_put_step(step, SF_RANK, 2, sf_offset(-1) | sf_offset(4)) == 0);
+    same("put_step", step, (uint8_t[]){SF_STEP(SF_RANK, 2, 264), 9}, sizeof step);
+
+    must("offset", sf_offset(-4) == 1 && sf_offset(0) == 16 && sf_offset(4) == 256);
+    must("offset, beyond", sf_offset(5) == SF_PATTERNS && sf_offset(-5) == SF_PATTERNS);
+    must("offset, far beyond", sf_offset(INT64_MAX) == SF_PATTERNS && sf_offset(INT64_MIN) == SF_PATTERNS);
+    uint8_t beyond[2 * SF_STEP_BYTES] = {SF_STEP(SF_SIGNAL, 0, 0)};
+    uint16_t terms[SF_MOST_TERMS];
+    must("put_step, offset 5", sf_put_step(beyond + SF_STEP_BYTES, SF_ERODE, 0, sf_offset(0) | sf_offset(5)) == 0);
+    expect("compile, offset 5", sf_compile(beyond, sizeof beyond, terms, SF_MOST_TERMS, &value), 3, 1);
+
+    const uint8_t none[] = {SF_STEP(SF_ERODE, 0, THREE)}, two[] = {SF_STEP(SF_SIGNAL, 0, 0), SF_STEP(SF_SIGNAL, 0, 0)};
+    const uint8_t nine[9 * SF_STEP_BYTES] = {0};
+    expect("compile, none held", sf_compile(none, sizeof none, terms, SF_MOST_TERMS, &value), 4, 0);
+    must("too few", strcmp(sf_signals_sentence(none, sizeof none, value), "too few signals are held") == 0);
+    expect("compile, nine held", sf_compile(nine, sizeof nine, terms, SF_MOST_TERMS, &value), 4, 8);
+    must("a ninth", strcmp(sf_signals_sentence(nine, sizeof nine, value), "a ninth signal is added") == 0);
+    expect("compile, two left", sf_compile(two, sizeof two, terms, SF_MOST_TERMS, &value), 4, 2);
+    must("two left", strcmp(sf_signals_sentence(two, sizeof two, value), "more than one signal is left at the end") == 0);
+
+    for (int number = 0; number < SF_REFUSED_PRESET_NUMBER; number++)
+        for (int other = number + 1; other <= SF_REFUSED_PRESET_NUMBER + 1; other++)
+            must("sentences differ", strcmp(sf_sentence((uint8_t)number), sf_sentence((uint8_t)other)) != 0);
+    must("no refusal", strcmp(sf_sentence(SF_REFUSED_PRESET_NUMBER + 1), sf_sentence(255)) == 0);
+}
+
 static void scans(void) {
     uint16_t out[6] = {1, 2, 3, 4, 5, 6};
+    expect("check", sf_check(FORM, 3, &value), 0, 3);
+    expect("check, no terms", sf_check(FORM, 0, &value), 0, 0);
+    expect("check, unsorted", sf_check(UNSORTED, 2, &value), 7, 1);
     expect("clean, unsorted", sf_clean(UNSORTED, 2, SCAN, 5, out, 5, &value), 7, 1);
     expect("clean, no samples", sf_clean(FORM, 3, SCAN, 0, out, 5, &value), 9, 0);
     expect("clean, six lent", sf_clean(FORM, 3, SCAN, 5, out, 6, &value), 10, 5);
@@ -144,13 +201,79 @@ static void files(void) {
     same("count, refused", counts, (uint64_t[]){1, 2, 3, 4, 5, 6}, sizeof counts);
     expect("count", sf_count(FILE_BYTES, 28, counts, &value), 0, 5);
     same("count", counts, (uint64_t[]){5, 1, 1, 80, 0, 6}, sizeof counts);
+
+    uint8_t line[SF_LINE_BYTES + 1], before[SF_LINE_BYTES + 1];
+    memset(line, 7, sizeof line);
+    memset(before, 7, sizeof before);
+    expect("line, one less", sf_line(FILE_BYTES, 28, line, SF_LINE_BYTES - 1, &value), 10, SF_LINE_BYTES);
+    expect("line, one more", sf_line(FILE_BYTES, 28, line, SF_LINE_BYTES + 1, &value), 10, SF_LINE_BYTES);
+    same("line, refused", line, before, sizeof line);
+    expect("line", sf_line(FILE_BYTES, 28, line, SF_LINE_BYTES, &value), 0, 11);
+    same("line", line, "5 1 1 80 0\n", 11);
+    same("line, behind", line + 11, before + 11, sizeof line - 11);
+    expect("line of a refused file", sf_line(FILE_BYTES, 27, line, SF_LINE_BYTES, &value), 0, 13);
+    same("line of a refused file", line, "refused 11 0\n", 13);
+    same("line of a refused file, behind", line + 13, before + 13, sizeof line - 13);
+}
+
+/* Every slice of length 0 may be a null pointer, in every call that takes one. */
+static void nulls(void) {
+    uint16_t two[2] = {1, 2}, three[3];
+    uint8_t table[SF_TABLE_BYTES] = {0}, bytes[SF_LINE_BYTES];
+    uint64_t counts[SF_COUNTS];
+    size_t terms_read = 99;
+    const uint8_t signal[] = {SF_STEP(SF_SIGNAL, 0, 0)}, empty[] = {12, 0, 0, 0, 12, 0, 0, 0, 0, 0, 0x53, 0x46};
+    const uint8_t sample[] = {7, 0, 14, 0, 0, 0, 12, 0, 0, 0, 0, 0, 0x53, 0x46};
+    expect("compile, null recipe", sf_compile(NULL, 0, two, 2, &value), 1, 0);
+    expect("compile, null terms", sf_compile(signal, 4, NULL, 0, &value), 6, 1);
+    expect("compile, all null", sf_compile(NULL, 0, NULL, 0, &value), 1, 0);
+    expect("run_recipe, null recipe", sf_run_recipe(NULL, 0, SCAN, 2, two, 2, &value), 1, 0);
+    expect("run_recipe, null scan", sf_run_recipe(signal, 4, NULL, 0, two, 2, &value), 9, 0);
+    expect("run_recipe, null out", sf_run_recipe(signal, 4, SCAN, 2, NULL, 0, &value), 10, 2);
+    expect("run_recipe, all null", sf_run_recipe(NULL, 0, NULL, 0, NULL, 0, &value), 1, 0);
+    expect("check, null", sf_check(NULL, 0, &value), 0, 0);
+    expect("clean, null scan", sf_clean(FORM, 3, NULL, 0, two, 2, &value), 9, 0);
+    expect("clean, null out", sf_clean(FORM, 3, SCAN, 2, NULL, 0, &value), 10, 2);
+    expect("clean, all null", sf_clean(NULL, 0, NULL, 0, NULL, 0, &value), 9, 0);
+    expect("clean, null terms", sf_clean(NULL, 0, SCAN, 2, two, 2, &value), 0, 2);
+    same("clean, null terms", two, (uint16_t[]){0, 0}, sizeof two);
+    int32_t residues[2] = {1, 2};
+    expect("residue, null scan", sf_residue(FORM, 3, NULL, 0, residues, 2, &value), 9, 0);
+    expect("residue, null out", sf_residue(FORM, 3, SCAN, 2, NULL, 0, &value), 10, 2);
+    expect("residue, null terms", sf_residue(NULL, 0, SCAN, 2, residues, 2, &value), 0, 2);
+    same("residue, null terms", residues, (int32_t[]){10, 10}, sizeof residues);
+    expect("root, null terms", sf_root(NULL, 0, SCAN, 2, &value), 0, 0);
+    expect("root, null scan", sf_root(FORM, 3, NULL, 0, &value), 9, 0);
+    expect("table_to_form, null table", sf_table_to_form(NULL, 0, two, 2, &value), 13, 0);
+    expect("table_to_form, null terms", sf_table_to_form(table, SF_TABLE_BYTES, NULL, 0, &value), 0, 0);
+    expect("form_to_table, null table", sf_form_to_table(FORM, 3, NULL, 0, &value), 13, 0);
+    table[0] = 1;
+    expect("form_to_table, null terms", sf_form_to_table(NULL, 0, table, SF_TABLE_BYTES, &value), 0, 0);
+    must("form_to_table, null terms", table[0] == 0);
+    expect("preset 0, null terms", sf_preset(0, NULL, 0, &value), 0, 0);
+    expect("preset 10, null terms", sf_preset(10, NULL, 0, &value), 6, 3);
+    expect("read, null file", sf_read(NULL, 0, two, 2, NULL, 0, &value, &terms_read), 11, 0);
+    expect("read, null samples", sf_read(FILE_BYTES, 28, NULL, 0, three, 3, &value, &terms_read), 10, 5);
+    expect("read, null terms", sf_read(sample, sizeof sample, two, 2, NULL, 0, &value, &terms_read), 0, 1);
+    same("read, null terms", two, (uint16_t[]){7, 0}, sizeof two);
+    expect("write, null terms", sf_write(NULL, 0, (uint16_t[]){7}, 1, bytes, sizeof sample, &value), 0, sizeof sample);
+    same("write, null terms", bytes, sample, sizeof sample);
+    expect("write, null scan", sf_write(FORM, 3, NULL, 0, bytes, 18, &value), 9, 0);
+    expect("write, null out", sf_write(FORM, 3, SCAN, 5, NULL, 0, &value), 10, 28);
+    expect("count, null file", sf_count(NULL, 0, counts, &value), 11, 0);
+    expect("count, empty scan", sf_count(empty, sizeof empty, counts, &value), 9, 0);
+    expect("line, null out", sf_line(FILE_BYTES, 28, NULL, 0, &value), 10, SF_LINE_BYTES);
+    expect("line, null file", sf_line(NULL, 0, bytes, SF_LINE_BYTES, &value), 0, 13);
+    same("line, null file", bytes, "refused 11 0\n", 13);
 }
 
 int main(void) {
     recipes();
+    beside();
     scans();
     tables();
     files();
+    nulls();
     printf("C: %d checks, %d faults\n", checks, faults);
     return faults != 0;
 }

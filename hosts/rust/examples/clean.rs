@@ -1,9 +1,9 @@
 //! From steps to a form to a cleaned scan: `cargo run --example clean`.
 
-use stackfilter::{clean, compile, count, recipe, write, Refusal, Step};
+use stackfilter::{clean, compile, count, offsets, recipe, write, Refusal, Step};
 
 fn main() -> Result<(), Refusal> {
-    let terms = compile(&recipe(&[Step::Signal, Step::Median(56)]))?;
+    let terms = compile(&recipe(&[Step::Signal, Step::Median(offsets(&[-1, 0, 1]))]))?;
     println!("the median of three has the terms {terms:?}");
 
     let scan = [10, 10, 90, 10, 10];

@@ -2,9 +2,10 @@
 //!
 //! A **scan** is 1 to 16,384 samples of 0 to 65,535; beyond its ends the first and the last sample
 //! are repeated without end. A set of **offsets** is a number 0 to 511, in which offset d, from -4
-//! to 4, is worth 2^(d+4). A **form** is a list of such sets, its terms, strictly ascending, none
-//! containing another; its filter gives at each sample the largest, over the terms, of the smallest
-//! sample that the term reaches. A **recipe** is 1 to 32 steps ([`Step`]) that compile to a form.
+//! to 4, is worth 2^(d+4) ([`offsets`]). A **form** is a list of such sets, its terms, strictly
+//! ascending, none containing another; its filter gives at each sample the largest, over the terms, of
+//! the smallest sample that the term reaches. A **recipe** is 1 to 32 steps ([`Step`]) that compile to
+//! a form.
 //!
 //! Each call comes in two shapes: one that gives its answer, and one, named `.._into`, that fills a
 //! slice you lend from its start and keeps what stands after the answer. A refused call gives a
@@ -12,22 +13,24 @@
 //! order in which they are tested. No call takes more than 128 KiB of the stack.
 //!
 //! ```
-//! use stackfilter::{clean, compile, recipe, Step};
+//! use stackfilter::{clean, compile, offsets, recipe, Step};
 //!
-//! let terms = compile(&recipe(&[Step::Signal, Step::Median(56)]))?;
+//! let terms = compile(&recipe(&[Step::Signal, Step::Median(offsets(&[-1, 0, 1]))]))?;
 //! assert_eq!(terms, [24, 40, 48]);
 //! assert_eq!(clean(&terms, &[10, 10, 90, 10, 10])?, [10, 10, 10, 10, 10]);
 //! # Ok::<(), stackfilter::Refusal>(())
 //! ```
+
+#![deny(missing_docs)]
 
 pub mod limits;
 pub mod raw;
 mod refusal;
 mod step;
 
-pub use limits::{MOST_SAMPLES, MOST_TERMS, TABLE_BYTES, TRAILER_BYTES};
-pub use refusal::Refusal;
-pub use step::{recipe, Step};
+pub use limits::{LINE_BYTES, MOST_SAMPLES, MOST_TERMS, TABLE_BYTES, TRAILER_BYTES};
+pub use refusal::{Held, Refusal};
+pub use step::{offsets, recipe, Step};
 
 use limits::{file_bytes, COUNTS, WORD_BYTES};
 
@@ -36,9 +39,12 @@ use limits::{file_bytes, COUNTS, WORD_BYTES};
 /// Refuses 1; then step by step 2, 3, 4, 5; then 4 at the end.
 ///
 /// ```
-/// use stackfilter::{compile, recipe, Refusal, Step};
-/// assert_eq!(compile(&recipe(&[Step::Signal, Step::Open(48)])), Ok(vec![24, 48]));
-/// assert_eq!(compile(&recipe(&[Step::Erode(48)])), Err(Refusal::SignalsHeld { step: 0 }));
+/// use stackfilter::{compile, offsets, recipe, Held, Refusal, Step};
+/// let pair = offsets(&[0, 1]);
+/// assert_eq!(compile(&recipe(&[Step::Signal, Step::Open(pair)])), Ok(vec![24, 48]));
+/// let refusal = compile(&recipe(&[Step::Erode(pair)])).unwrap_err();
+/// assert_eq!(refusal, Refusal::SignalsHeld { step: 0, held: Held::TooFew });
+/// assert_eq!(refusal.to_string(), "at step 0 too few signals are held");
 /// ```
 pub fn compile(recipe: &[u8]) -> Result<Vec<u16>, Refusal> {
     terms_by(|terms| compile_into(recipe, terms))
@@ -50,17 +56,18 @@ pub fn compile(recipe: &[u8]) -> Result<Vec<u16>, Refusal> {
 /// Refuses 1; then step by step 2, 3, 4, 5; then 4 at the end; then 6.
 ///
 /// ```
-/// use stackfilter::{compile_into, recipe, Refusal, Step};
+/// use stackfilter::{compile_into, offsets, recipe, Refusal, Step};
+/// let (three, five) = (offsets(&[-1, 0, 1]), offsets(&[-2, -1, 0, 1, 2]));
 /// let mut terms = [7; 4];
-/// assert_eq!(compile_into(&recipe(&[Step::Signal, Step::Median(56)]), &mut terms), Ok(3));
+/// assert_eq!(compile_into(&recipe(&[Step::Signal, Step::Median(three)]), &mut terms), Ok(3));
 /// assert_eq!(terms, [24, 40, 48, 7]);
-/// let refused = compile_into(&recipe(&[Step::Signal, Step::Median(124)]), &mut terms);
+/// let refused = compile_into(&recipe(&[Step::Signal, Step::Median(five)]), &mut terms);
 /// assert_eq!(refused, Err(Refusal::TermsLent { needed: 10 }));
 /// ```
 pub fn compile_into(recipe: &[u8], terms: &mut [u16]) -> Result<usize, Refusal> {
     // Safety, here and in every call below: each pointer and length are those of a slice, and a
     // slice that is written is borrowed for it alone.
-    answer(|value| unsafe {
+    answer_for(recipe, |value| unsafe {
         raw::sf_compile(recipe.as_ptr(), recipe.len(), terms.as_mut_ptr(), terms.len(), value)
     })
 }
@@ -70,12 +77,13 @@ pub fn compile_into(recipe: &[u8], terms: &mut [u16]) -> Result<usize, Refusal> 
 /// Refuses 1 to 5 as [`compile`] does, then 9.
 ///
 /// ```
-/// use stackfilter::{recipe, run_recipe, Step};
-/// let steps = recipe(&[Step::Signal, Step::Erode(56), Step::Dilate(56)]);
+/// use stackfilter::{offsets, recipe, run_recipe, Step};
+/// let three = offsets(&[-1, 0, 1]);
+/// let steps = recipe(&[Step::Signal, Step::Erode(three), Step::Dilate(three)]);
 /// assert_eq!(run_recipe(&steps, &[5, 0, 0]), Ok(vec![5, 0, 0]));
 /// ```
 pub fn run_recipe(recipe: &[u8], scan: &[u16]) -> Result<Vec<u16>, Refusal> {
-    let mut out = vec![0; scan.len()];
+    let mut out = vec![0; within(MOST_SAMPLES, scan.len())];
     run_recipe_into(recipe, scan, &mut out)?;
     Ok(out)
 }
@@ -85,7 +93,7 @@ pub fn run_recipe(recipe: &[u8], scan: &[u16]) -> Result<Vec<u16>, Refusal> {
 ///
 /// Refuses 1 to 5 as [`compile`] does, then 9, 10.
 pub fn run_recipe_into(recipe: &[u8], scan: &[u16], out: &mut [u16]) -> Result<usize, Refusal> {
-    answer(|value| unsafe {
+    answer_for(recipe, |value| unsafe {
         raw::sf_run_recipe(
             recipe.as_ptr(),
             recipe.len(),
@@ -98,6 +106,20 @@ pub fn run_recipe_into(recipe: &[u8], scan: &[u16], out: &mut [u16]) -> Result<u
     })
 }
 
+/// Whether a list of terms is a form, which every call that takes a form asks first: the number of its
+/// terms.
+///
+/// Refuses 7, 8.
+///
+/// ```
+/// use stackfilter::{check, Refusal};
+/// assert_eq!(check(&[24, 40, 48]), Ok(3));
+/// assert_eq!(check(&[24, 16]), Err(Refusal::BadTerm { index: 1 }));
+/// ```
+pub fn check(terms: &[u16]) -> Result<usize, Refusal> {
+    answer(|value| unsafe { raw::sf_check(terms.as_ptr(), terms.len(), value) })
+}
+
 /// The scan as the form's filter gives it.
 ///
 /// Refuses 7, 8, 9.
@@ -106,10 +128,10 @@ pub fn run_recipe_into(recipe: &[u8], scan: &[u16], out: &mut [u16]) -> Result<u
 /// use stackfilter::{clean, Refusal};
 /// assert_eq!(clean(&[16, 40], &[2, 2, 0, 1, 1]), Ok(vec![2, 2, 1, 1, 1]));
 /// assert_eq!(clean(&[], &[3, 9]), Ok(vec![0, 0]));
-/// assert_eq!(clean(&[16], &[]), Err(Refusal::ScanSize { samples: 0 }));
+/// assert_eq!(clean(&[16], &[]), Err(Refusal::ScanLength { samples: 0 }));
 /// ```
 pub fn clean(terms: &[u16], scan: &[u16]) -> Result<Vec<u16>, Refusal> {
-    let mut out = vec![0; scan.len()];
+    let mut out = vec![0; within(MOST_SAMPLES, scan.len())];
     clean_into(terms, scan, &mut out)?;
     Ok(out)
 }
@@ -147,7 +169,7 @@ pub fn clean_into(terms: &[u16], scan: &[u16], out: &mut [u16]) -> Result<usize,
 /// assert_eq!(stackfilter::residue(&[24, 40, 48], &[10, 10, 90, 10, 10]), Ok(vec![0, 0, 80, 0, 0]));
 /// ```
 pub fn residue(terms: &[u16], scan: &[u16]) -> Result<Vec<i32>, Refusal> {
-    let mut out = vec![0; scan.len()];
+    let mut out = vec![0; within(MOST_SAMPLES, scan.len())];
     residue_into(terms, scan, &mut out)?;
     Ok(out)
 }
@@ -273,12 +295,11 @@ pub struct ScanFile {
 /// use stackfilter::{read, write, Refusal, ScanFile};
 /// let file = write(&[24, 40, 48], &[10, 10, 90])?;
 /// assert_eq!(read(&file)?, ScanFile { samples: vec![10, 10, 90], terms: vec![24, 40, 48] });
-/// assert_eq!(read(&file[1..]), Err(Refusal::FileLayout));
+/// assert_eq!(read(&file[1..]), Err(Refusal::Layout));
 /// # Ok::<(), Refusal>(())
 /// ```
 pub fn read(file: &[u8]) -> Result<ScanFile, Refusal> {
-    // No file holds more samples than this.
-    let mut samples = vec![0; file.len() / WORD_BYTES];
+    let mut samples = vec![0; within(MOST_SAMPLES, file.len() / WORD_BYTES)];
     let mut terms = vec![0; MOST_TERMS];
     let (samples_read, terms_read) = read_into(file, &mut samples, &mut terms)?;
     samples.truncate(samples_read);
@@ -317,7 +338,7 @@ pub fn read_into(file: &[u8], samples: &mut [u16], terms: &mut [u16]) -> Result<
 /// # Ok::<(), stackfilter::Refusal>(())
 /// ```
 pub fn write(terms: &[u16], scan: &[u16]) -> Result<Vec<u8>, Refusal> {
-    let mut out = vec![0; file_bytes(scan.len(), terms.len())];
+    let mut out = vec![0; file_bytes(within(MOST_SAMPLES, scan.len()), within(MOST_TERMS, terms.len()))];
     write_into(terms, scan, &mut out)?;
     Ok(out)
 }
@@ -371,13 +392,48 @@ pub fn count(file: &[u8]) -> Result<Counts, Refusal> {
     Ok(Counts { samples, changed, spikes, above, below })
 }
 
-/// Makes a raw call: what it gives back, or its refusal.
+/// The line that the report program prints for a scan file, with the line feed at its end. It refuses
+/// no file: the line of a refused file is `refused`, the number and the place.
+///
+/// ```
+/// use stackfilter::{line, write};
+/// let file = write(&[24, 40, 48], &[10, 10, 90, 10, 10])?;
+/// assert_eq!(line(&file), "5 1 1 80 0\n");
+/// assert_eq!(line(&file[1..]), "refused 11 0\n");
+/// # Ok::<(), stackfilter::Refusal>(())
+/// ```
+pub fn line(file: &[u8]) -> String {
+    let mut out = [0; LINE_BYTES];
+    let length = line_into(file, &mut out).expect("every file has a line");
+    out[..length].iter().map(|byte| char::from(*byte)).collect()
+}
+
+/// Writes the line that the report program prints for a scan file to the start of `out`, which has
+/// [`LINE_BYTES`], and gives the line's length.
+///
+/// Refuses 10.
+pub fn line_into(file: &[u8], out: &mut [u8]) -> Result<usize, Refusal> {
+    answer(|value| unsafe { raw::sf_line(file.as_ptr(), file.len(), out.as_mut_ptr(), out.len(), value) })
+}
+
+/// Makes a raw call that takes no recipe: what it gives back, or its refusal.
 fn answer(call: impl FnOnce(&mut usize) -> u8) -> Result<usize, Refusal> {
+    answer_for(&[], call)
+}
+
+/// Makes a raw call that takes this recipe: what it gives back, or its refusal.
+fn answer_for(recipe: &[u8], call: impl FnOnce(&mut usize) -> u8) -> Result<usize, Refusal> {
     let mut value = 0;
     match call(&mut value) {
         0 => Ok(value),
-        number => Err(Refusal::new(number, value)),
+        number => Err(Refusal::new(number, value, recipe)),
     }
+}
+
+/// A length, or the most that is accepted: an input over the most is refused before the length of its
+/// output is looked at, so no output is made for it.
+fn within(most: usize, length: usize) -> usize {
+    length.min(most)
 }
 
 /// The terms that a call writes when it is lent room for every form.

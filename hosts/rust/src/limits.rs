@@ -32,6 +32,8 @@ pub const TRAILER_BYTES: usize = 12;
 pub const LONGEST_FILE: usize = file_bytes(MOST_SAMPLES, MOST_TERMS);
 /// How many counts the report has.
 pub const COUNTS: usize = 5;
+/// The bytes that are lent for the report's line.
+pub const LINE_BYTES: usize = 128;
 
 /// How long a scan file is that holds so many samples and terms.
 pub const fn file_bytes(samples: usize, terms: usize) -> usize {

@@ -11,7 +11,7 @@ use std::fmt;
 ///
 /// ```
 /// let refusal = stackfilter::clean(&[24, 16], &[5, 0, 0]).unwrap_err();
-/// assert_eq!(refusal, stackfilter::Refusal::Term { index: 1 });
+/// assert_eq!(refusal, stackfilter::Refusal::BadTerm { index: 1 });
 /// assert_eq!((refusal.number(), refusal.place()), (7, 1));
 /// assert_eq!(
 ///     refusal.to_string(),
@@ -21,51 +21,103 @@ use std::fmt;
 #[derive(Clone, Copy, Debug, PartialEq, Eq, Hash)]
 pub enum Refusal {
     /// 1: the recipe is empty, not a multiple of 4 bytes, or over 128 bytes.
-    RecipeLength { bytes: usize },
+    RecipeLength {
+        /// The recipe's length.
+        bytes: usize,
+    },
     /// 2: a step's code is over 8.
-    StepCode { step: usize },
+    StepCode {
+        /// The step, from 0.
+        step: usize,
+    },
     /// 3: a step's field is not allowed.
-    StepField { step: usize },
-    /// 4: too few signals held or a ninth added at this step; at the end, where `step` is the
-    /// number of steps: not one signal left.
-    SignalsHeld { step: usize },
-    /// 5: the reach leaves -4 to 4 after this step.
-    Reach { step: usize },
-    /// 6: fewer elements lent for terms than needed.
-    TermsLent { needed: usize },
+    StepField {
+        /// The step, from 0.
+        step: usize,
+    },
+    /// 4: too few signals are held, a ninth is added, or not one is left.
+    SignalsHeld {
+        /// The step, from 0; the number of steps where more than one is left at the end.
+        step: usize,
+        /// Which of the three it is.
+        held: Held,
+    },
+    /// 5: the reach leaves -4 to 4 after a step.
+    Reach {
+        /// The step, from 0.
+        step: usize,
+    },
+    /// 6: fewer elements are lent for terms than needed.
+    TermsLent {
+        /// The number of terms.
+        needed: usize,
+    },
     /// 7: a term is over 511, not above its predecessor, or contains an earlier one.
-    Term { index: usize },
+    BadTerm {
+        /// The first such index.
+        index: usize,
+    },
     /// 8: a form has over 126 terms.
-    FormSize { terms: usize },
+    TermCount {
+        /// Its terms.
+        terms: usize,
+    },
     /// 9: the scan has no samples, or over 16,384.
-    ScanSize { samples: usize },
+    ScanLength {
+        /// Its samples.
+        samples: usize,
+    },
     /// 10: the output slice has the wrong length (reading a file: fewer than the samples).
-    OutputLength { needed: usize },
+    OutputLength {
+        /// The length needed.
+        needed: usize,
+    },
     /// 11: the scan file is badly laid out.
-    FileLayout,
+    Layout,
     /// 12: the truth table is not positive.
-    NotPositive { pattern: usize },
+    NotPositive {
+        /// The least pattern with value 1 that one more offset turns to 0.
+        pattern: usize,
+    },
     /// 13: the slice of the truth table has not 64 bytes.
-    TableLength { bytes: usize },
-    /// 14: a preset number over 19.
-    PresetNumber { number: usize },
+    TableLength {
+        /// Its length.
+        bytes: usize,
+    },
+    /// 14: a preset number is over 19.
+    PresetNumber {
+        /// The number.
+        number: usize,
+    },
+}
+
+/// What is wrong with the signals that a recipe holds.
+#[derive(Clone, Copy, Debug, PartialEq, Eq, Hash)]
+pub enum Held {
+    /// A step finds fewer signals than it takes.
+    TooFew,
+    /// A step adds a ninth signal.
+    Ninth,
+    /// After the last step more than one signal is left.
+    NotOne,
 }
 
 impl Refusal {
-    /// The refusal that has this number and this place.
-    pub(crate) fn new(number: u8, place: usize) -> Refusal {
+    /// The refusal that has this number and this place, given for this recipe; for any recipe where
+    /// the call takes none.
+    pub(crate) fn new(number: u8, place: usize, recipe: &[u8]) -> Refusal {
         match number {
             1 => Refusal::RecipeLength { bytes: place },
             2 => Refusal::StepCode { step: place },
             3 => Refusal::StepField { step: place },
-            4 => Refusal::SignalsHeld { step: place },
+            4 => Refusal::SignalsHeld { step: place, held: held(place, recipe) },
             5 => Refusal::Reach { step: place },
             6 => Refusal::TermsLent { needed: place },
-            7 => Refusal::Term { index: place },
-            8 => Refusal::FormSize { terms: place },
-            9 => Refusal::ScanSize { samples: place },
+            7 => Refusal::BadTerm { index: place },
+            8 => Refusal::TermCount { terms: place },
+            9 => Refusal::ScanLength { samples: place },
             10 => Refusal::OutputLength { needed: place },
-            11 => Refusal::FileLayout,
+            11 => Refusal::Layout,
             12 => Refusal::NotPositive { pattern: place },
             13 => Refusal::TableLength { bytes: place },
             14 => Refusal::PresetNumber { number: place },
@@ -82,11 +134,11 @@ impl Refusal {
             Refusal::SignalsHeld { .. } => 4,
             Refusal::Reach { .. } => 5,
             Refusal::TermsLent { .. } => 6,
-            Refusal::Term { .. } => 7,
-            Refusal::FormSize { .. } => 8,
-            Refusal::ScanSize { .. } => 9,
+            Refusal::BadTerm { .. } => 7,
+            Refusal::TermCount { .. } => 8,
+            Refusal::ScanLength { .. } => 9,
             Refusal::OutputLength { .. } => 10,
-            Refusal::FileLayout => 11,
+            Refusal::Layout => 11,
             Refusal::NotPositive { .. } => 12,
             Refusal::TableLength { .. } => 13,
             Refusal::PresetNumber { .. } => 14,
@@ -99,17 +151,27 @@ impl Refusal {
         match *self {
             Refusal::StepCode { step }
             | Refusal::StepField { step }
-            | Refusal::SignalsHeld { step }
+            | Refusal::SignalsHeld { step, .. }
             | Refusal::Reach { step } => step,
             Refusal::RecipeLength { bytes } | Refusal::TableLength { bytes } => bytes,
             Refusal::TermsLent { needed } | Refusal::OutputLength { needed } => needed,
-            Refusal::Term { index } => index,
-            Refusal::FormSize { terms } => terms,
-            Refusal::ScanSize { samples } => samples,
-            Refusal::FileLayout => 0,
+            Refusal::BadTerm { index } => index,
+            Refusal::TermCount { terms } => terms,
+            Refusal::ScanLength { samples } => samples,
+            Refusal::Layout => 0,
             Refusal::NotPositive { pattern } => pattern,
             Refusal::PresetNumber { number } => number,
         }
+    }
+}
+
+/// Which of refusal 4's causes it is: at the end more than one signal is left; before it a signal step
+/// (code 0) adds a ninth, and any other step finds too few.
+fn held(place: usize, recipe: &[u8]) -> Held {
+    match recipe.get(STEP_BYTES * place) {
+        None => Held::NotOne,
+        Some(0) => Held::Ninth,
+        Some(_) => Held::TooFew,
     }
 }
 
@@ -125,31 +187,37 @@ impl fmt::Display for Refusal {
             }
             Refusal::StepCode { .. } => write!(f, "step {place} has a code over {LAST_CODE}"),
             Refusal::StepField { .. } => write!(f, "step {place} has a field that is not allowed"),
-            Refusal::SignalsHeld { .. } => {
-                write!(f, "at step {place} too few signals are held, a ninth is added, or not one is left at the end")
+            Refusal::SignalsHeld { held: Held::TooFew, .. } => {
+                write!(f, "at step {place} too few signals are held")
+            }
+            Refusal::SignalsHeld { held: Held::Ninth, .. } => {
+                write!(f, "at step {place} a ninth signal is added")
+            }
+            Refusal::SignalsHeld { held: Held::NotOne, .. } => {
+                write!(f, "after the {place} steps more than one signal is left")
             }
             Refusal::Reach { .. } => write!(f, "at step {place} the reach leaves -{REACH} to {REACH}"),
             Refusal::TermsLent { .. } => {
                 write!(f, "{place} elements are needed for the terms, and fewer were lent")
             }
-            Refusal::Term { .. } => {
+            Refusal::BadTerm { .. } => {
                 let most = PATTERNS - 1;
                 write!(
                     f,
                     "term {place} is over {most}, not above its predecessor, or contains an earlier one"
                 )
             }
-            Refusal::FormSize { .. } => {
+            Refusal::TermCount { .. } => {
                 write!(f, "a form has at most {MOST_TERMS} terms, and this has {place}")
             }
-            Refusal::ScanSize { .. } => {
+            Refusal::ScanLength { .. } => {
                 let (thousands, rest) = (MOST_SAMPLES / 1000, MOST_SAMPLES % 1000);
                 write!(f, "a scan has 1 to {thousands},{rest:03} samples, and this has {place}")
             }
             Refusal::OutputLength { .. } => {
                 write!(f, "the output has the wrong length, and {place} is needed")
             }
-            Refusal::FileLayout => write!(f, "the scan file is badly laid out"),
+            Refusal::Layout => write!(f, "the scan file is badly laid out"),
             Refusal::NotPositive { .. } => {
                 write!(f, "the truth table is 1 on pattern {place} and 0 with one offset more, so it is not positive")
             }

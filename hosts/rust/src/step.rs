@@ -1,9 +1,35 @@
-//! Recipes by the names of their steps.
+//! Recipes by the names of their steps, and sets by their offsets.
 
-use crate::limits::STEP_BYTES;
+use crate::limits::{PATTERNS, REACH, STEP_BYTES};
 
-/// One step of a recipe. A set of offsets is a number 0 to 511, in which offset d, from -4 to 4, is
-/// worth 2^(d+4): {-1, 0, 1} is 56.
+/// The set of these offsets: a number 0 to 511, in which offset d, from -4 to 4, is worth 2^(d+4).
+///
+/// It is 512 where an offset is not -4 to 4. No step and no form takes a set over 511, so a recipe
+/// with it is refused with 3, and a form with it with 7.
+///
+/// ```
+/// use stackfilter::{compile, offsets, recipe, Refusal, Step};
+/// const NEIGHBOURS: u16 = offsets(&[-1, 0, 1]);
+/// assert_eq!(NEIGHBOURS, 56);
+/// let beyond = recipe(&[Step::Signal, Step::Median(offsets(&[0, 1, 5]))]);
+/// assert_eq!(compile(&beyond), Err(Refusal::StepField { step: 1 }));
+/// ```
+pub const fn offsets(offsets: &[i32]) -> u16 {
+    let reach = REACH as i32;
+    let mut set = 0;
+    let mut i = 0;
+    while i < offsets.len() {
+        let offset = offsets[i];
+        if offset < -reach || reach < offset {
+            return PATTERNS as u16;
+        }
+        set |= 1 << (offset + reach);
+        i += 1;
+    }
+    set
+}
+
+/// One step of a recipe. Its set of offsets is best made by [`offsets`].
 #[derive(Clone, Copy, Debug, PartialEq, Eq)]
 pub enum Step {
     /// Adds the scan to the signals held.
@@ -49,8 +75,8 @@ impl Step {
 /// [`run_recipe`](crate::run_recipe) judge them.
 ///
 /// ```
-/// use stackfilter::{recipe, Step};
-/// assert_eq!(recipe(&[Step::Signal, Step::Median(56)]), [0, 0, 0, 0, 6, 0, 56, 0]);
+/// use stackfilter::{offsets, recipe, Step};
+/// assert_eq!(recipe(&[Step::Signal, Step::Median(offsets(&[-1, 0, 1]))]), [0, 0, 0, 0, 6, 0, 56, 0]);
 /// ```
 pub fn recipe(steps: &[Step]) -> Vec<u8> {
     steps.iter().flat_map(|step| step.bytes()).collect()

@@ -46,13 +46,15 @@ fn recipes_compile_to_their_forms() {
 
 #[test]
 fn faulty_recipes_are_refused() {
-    let cases: [(&[Step], Refusal); 6] = [
+    let cases: [(&[Step], Refusal); 8] = [
         (&[Step::Open(504)], Refusal::Reach { step: 1 }),
         (&[Step::Erode(1), Step::Erode(1)], Refusal::Reach { step: 2 }),
         (&[Step::Erode(256), Step::Open(48)], Refusal::Reach { step: 2 }),
         (&[Step::Erode(0)], Refusal::StepField { step: 1 }),
         (&[Step::Median(48)], Refusal::StepField { step: 1 }),
-        (&[Step::Signal], Refusal::SignalsHeld { step: 2 }),
+        (&[Step::Signal], Refusal::SignalsHeld { step: 2, held: Held::NotOne }),
+        (&[Step::Larger], Refusal::SignalsHeld { step: 1, held: Held::TooFew }),
+        (&[Step::Signal; 8], Refusal::SignalsHeld { step: 8, held: Held::Ninth }),
     ];
     for (steps, refusal) in cases {
         assert_eq!(compile(&after_signal(steps)), Err(refusal), "{steps:?}");
@@ -62,7 +64,8 @@ fn faulty_recipes_are_refused() {
     let bytes = LONGEST_RECIPE + STEP_BYTES;
     assert_eq!(compile(&vec![0; bytes]), Err(Refusal::RecipeLength { bytes }));
     assert_eq!(compile(&[0, 0, 0, 0, 9, 1, 1, 1]), Err(Refusal::StepCode { step: 1 }));
-    assert_eq!(compile(&[0; 36]), Err(Refusal::SignalsHeld { step: 8 }));
+    let erode_first = recipe(&[Step::Erode(48)]);
+    assert_eq!(compile(&erode_first), Err(Refusal::SignalsHeld { step: 0, held: Held::TooFew }));
 }
 
 #[test]
@@ -90,20 +93,22 @@ fn constant_forms_give_constants() {
 #[test]
 fn faulty_forms_are_refused_by_every_call_that_takes_one() {
     for terms in [[24, 16], [16, 24], [16, 16], [16, PATTERNS as u16]] {
-        let refusal = Refusal::Term { index: 1 };
+        let refusal = Refusal::BadTerm { index: 1 };
         assert_eq!(clean(&terms, &[7]), Err(refusal));
         assert_eq!(residue(&terms, &[7]), Err(refusal));
         assert_eq!(root(&terms, &[7]), Err(refusal));
         assert_eq!(form_to_table(&terms), Err(refusal));
         assert_eq!(write(&terms, &[7]), Err(refusal));
+        assert_eq!(check(&terms), Err(refusal));
     }
+    assert_eq!(check(&[]), Ok(0));
 }
 
 #[test]
 fn scans_have_one_to_the_most_samples() {
     for samples in [0, MOST_SAMPLES + 1] {
         let scan = vec![7; samples];
-        let refusal = Refusal::ScanSize { samples };
+        let refusal = Refusal::ScanLength { samples };
         assert_eq!(clean(&[16], &scan), Err(refusal));
         assert_eq!(run_recipe(&after_signal(&[]), &scan), Err(refusal));
         assert_eq!(write(&[16], &scan), Err(refusal));
@@ -111,6 +116,19 @@ fn scans_have_one_to_the_most_samples() {
     let longest = vec![7; MOST_SAMPLES];
     assert_eq!(clean(&[16], &longest).as_ref(), Ok(&longest));
     assert_eq!(root(&[16], &longest), Ok(None));
+}
+
+#[test]
+fn sets_are_made_of_offsets() {
+    assert_eq!(offsets(&[]), 0);
+    assert_eq!(offsets(&[-1, 0, 1]), 56);
+    assert_eq!(offsets(&[1, 0, -1, 0]), 56);
+    assert_eq!(offsets(&[-4, -3, -2, -1, 0, 1, 2, 3, 4]), EVERY_OFFSET);
+    for beyond in [-5, 5, i32::MIN, i32::MAX] {
+        let set = offsets(&[0, beyond]);
+        assert_eq!(compile(&after_signal(&[Step::Erode(set)])), Err(Refusal::StepField { step: 1 }));
+        assert_eq!(check(&[set]), Err(Refusal::BadTerm { index: 0 }));
+    }
 }
 
 #[test]
@@ -151,7 +169,14 @@ fn files_are_written_read_and_counted() {
     assert_eq!(write(&terms, &scan).as_deref(), Ok(&file[..]));
     assert_eq!(read(&file), Ok(ScanFile { samples: scan.to_vec(), terms: terms.to_vec() }));
     assert_eq!(count(&file), Ok(Counts { samples: 5, changed: 1, spikes: 1, above: 80, below: 0 }));
-    assert_eq!(count(&[]), Err(Refusal::FileLayout));
+    assert_eq!(line(&file), "5 1 1 80 0\n");
+    assert_eq!((count(&[]), line(&[])), (Err(Refusal::Layout), "refused 11 0\n".to_string()));
+
+    for lent in [0, LINE_BYTES - 1, LINE_BYTES + 1] {
+        let mut out = vec![7; lent];
+        assert_eq!(line_into(&file, &mut out), Err(Refusal::OutputLength { needed: LINE_BYTES }));
+        assert_eq!(out, vec![7; lent]);
+    }
 
     let (mut samples, mut read_terms) = ([1; 6], [2; 4]);
     assert_eq!(
@@ -179,33 +204,4 @@ fn presets_are_the_filters_of_three_samples() {
     }
     assert_eq!(preset(12), Ok(vec![16, 40]));
     assert_eq!(preset(1 << 32), Err(Refusal::PresetNumber { number: 1 << 32 }));
-}
-
-#[test]
-fn each_refusal_has_its_number_its_place_and_its_own_sentence() {
-    let refusals = [
-        Refusal::RecipeLength { bytes: 3 },
-        Refusal::StepCode { step: 3 },
-        Refusal::StepField { step: 3 },
-        Refusal::SignalsHeld { step: 3 },
-        Refusal::Reach { step: 3 },
-        Refusal::TermsLent { needed: 3 },
-        Refusal::Term { index: 3 },
-        Refusal::FormSize { terms: 3 },
-        Refusal::ScanSize { samples: 3 },
-        Refusal::OutputLength { needed: 3 },
-        Refusal::FileLayout,
-        Refusal::NotPositive { pattern: 3 },
-        Refusal::TableLength { bytes: 3 },
-        Refusal::PresetNumber { number: 3 },
-    ];
-    let mut sentences = Vec::new();
-    for (index, refusal) in refusals.iter().enumerate() {
-        assert_eq!(refusal.number() as usize, index + 1);
-        assert_eq!(refusal.place(), if refusal.number() == 11 { 0 } else { 3 });
-        sentences.push(refusal.to_string());
-    }
-    sentences.sort();
-    sentences.dedup();
-    assert_eq!(sentences.len(), refusals.len());
 }

@@ -1,13 +1,13 @@
-//! The library against a second implementation, on random and damaged inputs, over all eleven
+//! The library against a second implementation, on random and damaged inputs, over all thirteen
 //! calls. Behind and before every slice that is lent stand guards that no call may touch.
 //!
-//! `STACKFILTER_INPUTS` sets the number of inputs in all (220,000 unless set), and
+//! `STACKFILTER_INPUTS` sets the number of inputs in all (260,000 unless set), and
 //! `STACKFILTER_SEED` the seed.
 
 mod independent;
 mod inputs;
 
-use independent::limits::{file_bytes, PRESETS, TABLE_BYTES};
+use independent::limits::{file_bytes, LINE_BYTES, PRESETS, TABLE_BYTES};
 use independent::No;
 use inputs::Random;
 use stackfilter::{raw, Refusal};
@@ -15,7 +15,7 @@ use std::collections::BTreeMap;
 use std::env;
 use std::fmt::Debug;
 
-const CALLS: u64 = 11;
+const CALLS: u64 = 13;
 
 /// The elements before and behind a slice that is lent.
 const GUARD: usize = 16;
@@ -74,7 +74,7 @@ fn setting(name: &str, unless_set: u64) -> u64 {
 /// for an answer among them, must have been met.
 fn try_call(call: u64, numbers: &[u8], one: impl Fn(&mut Random) -> (u8, Option<String>)) {
     let seed = setting("STACKFILTER_SEED", 1986);
-    let inputs = (setting("STACKFILTER_INPUTS", 220_000) + CALLS - 1) / CALLS;
+    let inputs = (setting("STACKFILTER_INPUTS", 260_000) + CALLS - 1) / CALLS;
     let mut met: BTreeMap<u8, u64> = BTreeMap::new();
     for index in 0..inputs {
         let mut random = Random::new(seed ^ call << 56 ^ index << 16);
@@ -384,5 +384,38 @@ fn count() {
         let complaint = complain(raw_same, &file, &expected, &(number, &value.now, &counts.now))
             .or_else(|| complain(safe == expected, &file, &expected, &safe));
         (number, complaint)
+    });
+}
+
+#[test]
+fn check() {
+    try_call(11, &[0, 7], |random| {
+        let terms = random.terms();
+        let expected = independent::check(&terms);
+        let mut value = lend_usize(random);
+        let number = unsafe { raw::sf_check(terms.as_ptr(), terms.len(), value.pointer()) };
+        let (no, gives) = outcome(&expected, |terms| *terms);
+        let raw_same = number == no && value.holds(&[gives]);
+        let safe = plain(stackfilter::check(&terms));
+        let complaint = complain(raw_same, &terms, &expected, &(number, &value.now))
+            .or_else(|| complain(safe == expected, &terms, &expected, &safe));
+        (number, complaint)
+    });
+}
+
+#[test]
+fn line() {
+    try_call(12, &[0, 10], |random| {
+        let file = random.file();
+        let lent = random.exact_length(LINE_BYTES);
+        compare(
+            &file,
+            lend_u8(random, lent),
+            random,
+            independent::line(&file, lent),
+            independent::line(&file, LINE_BYTES),
+            |out, lent, value| unsafe { raw::sf_line(file.as_ptr(), file.len(), out, lent, value) },
+            || Ok(stackfilter::line(&file).into_bytes()),
+        )
     });
 }

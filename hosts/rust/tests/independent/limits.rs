@@ -32,6 +32,8 @@ pub const TRAILER: usize = 2 * DISTANCE_BYTES + COUNT_BYTES + MARK.len();
 /// A sample's or a term's.
 pub const WORD_BYTES: usize = 2;
 pub const LONGEST_FILE: usize = file_bytes(MOST_SAMPLES, MOST_TERMS);
+/// What is lent for the report's line.
+pub const LINE_BYTES: usize = 128;
 
 // What follows is what the document says in figures.
 const _: () = assert!(PATTERNS == 512 && TABLE_BYTES == 64 && LONGEST_RECIPE == 128);

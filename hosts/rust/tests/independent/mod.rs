@@ -10,7 +10,7 @@ pub mod forms;
 pub mod limits;
 pub mod recipes;
 
-use limits::{BYTE_BITS, MOST_SAMPLES, TABLE_BYTES};
+use limits::{BYTE_BITS, LINE_BYTES, MOST_SAMPLES, TABLE_BYTES};
 
 /// A refusal's number and place.
 pub type No = (u8, usize);
@@ -26,6 +26,12 @@ pub fn run_recipe(recipe: &[u8], scan: &[u16], lent: usize) -> Result<Vec<u16>, 
     check_scan(scan.len())?;
     check_output(scan.len(), lent)?;
     Ok(recipes::run(&plan, scan))
+}
+
+/// The number of terms.
+pub fn check(terms: &[u16]) -> Result<usize, No> {
+    forms::check(terms)?;
+    Ok(terms.len())
 }
 
 pub fn clean(terms: &[u16], scan: &[u16], lent: usize) -> Result<Vec<u16>, No> {
@@ -100,6 +106,16 @@ pub fn count(file: &[u8]) -> Result<[u64; 5], No> {
     let above: u64 = residues.iter().filter(|r| **r > 0).map(|r| *r as u64).sum();
     let below: u64 = residues.iter().filter(|r| **r < 0).map(|r| -*r as u64).sum();
     Ok([samples.len() as u64, changed as u64, spikes as u64, above, below])
+}
+
+/// The report's line. A refused file has one too.
+pub fn line(file: &[u8], lent: usize) -> Result<Vec<u8>, No> {
+    check_output(LINE_BYTES, lent)?;
+    let fields: Vec<String> = match count(file) {
+        Ok(counts) => counts.iter().map(u64::to_string).collect(),
+        Err((number, place)) => vec!["refused".to_string(), number.to_string(), place.to_string()],
+    };
+    Ok((fields.join(" ") + "\n").into_bytes())
 }
 
 fn read_sound(file: &[u8]) -> Result<(Vec<u16>, Vec<u16>), No> {
