@@ -1,6 +1,7 @@
-/* Times the library through its C interface beside plain C. Each line it prints is one row of the
-   table, its fields apart by tabs: name, unit, ours, plain C ("-" where there is none). Notes begin
-   with "note". Every timed pair of calls is first seen to give the same answer.
+/* Times the library through its C interface beside plain C, and sees how much stack each call takes. Each line
+   it prints is one row of a table, its fields apart by tabs: "time", name, unit, ours, plain C ("-" where there
+   is none); or "stack", call, bytes. Notes begin with "note". Every timed pair of calls is first seen to give the
+   same answer.
 
    usage: measure FILE ROUNDS [RECIPE]
 
@@ -12,6 +13,7 @@
 #include <stdlib.h>
 #include <string.h>
 #include <time.h>
+#include <ucontext.h>
 
 #define SAMPLES SF_MOST_SAMPLES
 #define EVERY_OFFSET (SF_PATTERNS - 1) /* as a set */
@@ -109,6 +111,34 @@ static void read_file(job *j) {
     demand(sf_read(j->file, j->file_bytes, ours, SAMPLES, j->terms, SF_MOST_TERMS, &value, &terms_read));
 }
 
+/* The other calls, for their stack. An older checkout (bench/run --against) has not got the first two. */
+#pragma weak sf_check
+#pragma weak sf_line
+static int32_t residues[SAMPLES];
+static uint8_t table[SF_TABLE_BYTES];
+
+static void residue(job *j) { demand(sf_residue(j->terms, j->m, scan, SAMPLES, residues, SAMPLES, &value)); }
+static void root(job *j) { demand(sf_root(j->terms, j->m, scan, SAMPLES, &value)); }
+static void form_to_table(job *j) { demand(sf_form_to_table(j->terms, j->m, table, SF_TABLE_BYTES, &value)); }
+static void table_to_form(job *j) { demand(sf_table_to_form(table, SF_TABLE_BYTES, j->terms, SF_MOST_TERMS, &value)); }
+static void write_file(job *j) { demand(sf_write(j->terms, j->m, scan, SAMPLES, j->file, j->file_bytes, &value)); }
+
+static void check(job *j) {
+    if (sf_check)
+        demand(sf_check(j->terms, j->m, &value));
+}
+
+static void line(job *j) {
+    uint8_t text[SF_LINE_BYTES];
+    if (sf_line)
+        demand(sf_line(j->file, j->file_bytes, text, sizeof text, &value));
+}
+
+static void preset(job *j) {
+    for (uint64_t number = 0; number < SF_PRESETS; number++)
+        demand(sf_preset(number, j->terms, SF_MOST_TERMS, &value));
+}
+
 static void clean_plainly(job *j) { plain_clean(j->terms, j->m, scan, SAMPLES, plains); }
 static void clean_by_bits(job *j) { plain_clean_by_bits(j->terms, j->m, scan, SAMPLES, plains); }
 static void run_plainly(job *j) { plain_run_recipe(j->recipe, j->steps, scan, SAMPLES, plains); }
@@ -146,14 +176,14 @@ static void row_beside(const char *name, call *one, call *plain, job j) {
     if (memcmp(ours, plains, sizeof ours) != 0)
         refuse_to_go_on(name);
     time_best(one, plain, &j, &best, &best_plain);
-    printf("%s\tns per sample\t%.3f\t%.3f\n", name, best / SAMPLES, best_plain / SAMPLES);
+    printf("time\t%s\tns per sample\t%.3f\t%.3f\n", name, best / SAMPLES, best_plain / SAMPLES);
     fflush(stdout);
 }
 
 static void row_alone(const char *name, call *one, job j) {
     double best;
     time_best(one, NULL, &j, &best, NULL);
-    printf("%s\tms\t%.4f\t-\n", name, best / 1e6);
+    printf("time\t%s\tms\t%.4f\t-\n", name, best / 1e6);
     fflush(stdout);
 }
 
@@ -260,16 +290,16 @@ static void recipes(void) {
     row_beside("recipe open 48, close 48", run, run_plainly, two);
     row_beside("recipe median 124", run, run_plainly, after_signal(SF_MEDIAN, 0, 124));
     row_beside("recipe of eight signals joined by larger", run, run_plainly, eight);
-
 }
 
-static void compiling(const char *recipe) {
+static job compiling(const char *recipe) {
     job dearest = recipe ? recipe_in(recipe) : dearest_recipe();
     row_alone("compile the dearest of 300 large recipes", compile, dearest);
     printf("recipe\t");
     for (size_t i = 0; i < SF_STEP_BYTES * dearest.steps; i++)
         printf("%02x", dearest.recipe[i]);
     printf("\n");
+    return dearest;
 }
 
 static void files(void) {
@@ -300,8 +330,58 @@ static void ends(void) {
     job j = after_signal(SF_OPEN, 0, 56);
     demand(sf_run_recipe(j.recipe, SF_STEP_BYTES * j.steps, short_scan, 3, ours, 3, &value));
     plain_run_recipe(j.recipe, j.steps, short_scan, 3, plains);
-    printf("opening by 3 of 5 0 0\tsamples\t%d %d %d\t%d %d %d\n", ours[0], ours[1], ours[2], plains[0], plains[1],
+    printf("time\topening by 3 of 5 0 0\tsamples\t%d %d %d\t%d %d %d\n", ours[0], ours[1], ours[2], plains[0], plains[1],
            plains[2]);
+}
+
+/* ---- the stack */
+
+#define STACK_BYTES (1 << 20)
+#define STACK_ALIGNMENT 16
+#define PAINT 0xA5
+
+static unsigned char stack[STACK_BYTES] __attribute__((aligned(4096)));
+static ucontext_t outside, inside;
+static call *on_the_stack;
+static job *its_job;
+
+static void call_on_the_stack(void) { on_the_stack(its_job); }
+static void do_nothing(job *j) { (void)j; }
+
+/* How far down a painted stack is no longer as it was painted, after the call was made on it. */
+static size_t deepest(call *run, job *j) {
+    on_the_stack = run;
+    its_job = j;
+    memset(stack, PAINT, STACK_BYTES);
+    if (getcontext(&inside) != 0)
+        refuse_to_go_on("there is no other stack to run on");
+    inside.uc_stack.ss_sp = stack;
+    inside.uc_stack.ss_size = STACK_BYTES;
+    inside.uc_link = &outside;
+    makecontext(&inside, call_on_the_stack, 0);
+    if (swapcontext(&outside, &inside) != 0)
+        refuse_to_go_on("there is no other stack to run on");
+    size_t unchanged = 0;
+    while (unchanged < STACK_BYTES && stack[unchanged] == PAINT)
+        unchanged++;
+    return STACK_BYTES - unchanged / STACK_ALIGNMENT * STACK_ALIGNMENT;
+}
+
+/* On inputs as large as they may be: a recipe of many steps whose ranks are over large sets, a form of the most
+   terms, the longest file. What calling takes by itself is left out. */
+static void stacks(job recipe) {
+    job form = compiled(after_signal(SF_RANK, 5, EVERY_OFFSET)), file = form;
+    file.file_bytes = SF_FILE_BYTES(SAMPLES, file.m);
+    const struct { const char *name; call *run; job *j; } calls[] = {
+        {"sf_compile", compile, &recipe},      {"sf_run_recipe", run, &recipe},
+        {"sf_check", check, &form},            {"sf_clean", clean, &form},
+        {"sf_residue", residue, &form},        {"sf_root", root, &form},
+        {"sf_form_to_table", form_to_table, &form}, {"sf_table_to_form", table_to_form, &form},
+        {"sf_preset", preset, &recipe},        {"sf_write", write_file, &file},
+        {"sf_read", read_file, &file},         {"sf_count", count, &file},
+        {"sf_line", line, &file}};
+    for (size_t i = 0; i < sizeof calls / sizeof *calls; i++)
+        printf("stack\t%s\t%zu\n", calls[i].name, deepest(calls[i].run, calls[i].j) - deepest(do_nothing, NULL));
 }
 
 static void save_scan(const char *path) {
@@ -317,9 +397,10 @@ int main(int count_of_arguments, char **arguments) {
     save_scan(arguments[1]);
     forms();
     recipes();
-    compiling(count_of_arguments > 3 ? arguments[3] : NULL);
+    job dearest = compiling(count_of_arguments > 3 ? arguments[3] : NULL);
     files();
     shared_filters();
     ends();
+    stacks(dearest);
     return 0;
 }

@@ -1,4 +1,4 @@
-"""Times a peer on the filters that it shares with us: peers.py SciPy|OpenCV SCAN_FILE
+"""Times a peer on the filters that it shares with us: peers.py SciPy|OpenCV SCAN_FILE ROUNDS
 
 The first line printed is the peer's version; each other one is a row's name and its number, with a tab
 between them. Exit status 3: the peer is not installed.
@@ -9,8 +9,6 @@ import sys
 import time
 
 sys.path.insert(0, str(pathlib.Path(__file__).resolve().parents[1] / "hosts" / "python"))
-
-ROUNDS = 100
 
 
 def scipy_filters():
@@ -38,12 +36,12 @@ def opencv_filters():
     return cv2.__version__, {"median": median, "opening": opening}
 
 
-def best_time(call):
+def best_time(call, rounds):
     start = time.perf_counter()
     call()
     times = 1 + int(0.002 / (time.perf_counter() - start))
     best = float("inf")
-    for _ in range(ROUNDS):
+    for _ in range(rounds):
         start = time.perf_counter()
         for _ in range(times):
             call()
@@ -54,24 +52,23 @@ def best_time(call):
 def same_inside(scan, name, window, answer):
     """Whether the peer computes what we do, the ends left out."""
     import stackfilter
-    # So many neighbouring offsets, offset 0 in their middle.
-    offsets = (2 ** window - 1) << (stackfilter.REACH - window // 2)
-    step = ("median" if name == "median" else "open", offsets)
+    around = stackfilter.offsets(*range(-(window // 2), window // 2 + 1))
+    step = ("median" if name == "median" else "open", around)
     expected = stackfilter.run_recipe(stackfilter.recipe("signal", step), scan)
     return (answer == expected)[window:-window].all()
 
 
-def row(filters, scan, name, window):
+def row(filters, scan, name, window, rounds):
     try:
         answer = filters[name](scan, window)
     except Exception:
         return "not for 16 bits"
     if not same_inside(scan, name, window, answer):
         return "another filter"
-    return f"{1e9 * best_time(lambda: filters[name](scan, window)) / len(scan):.3f}"
+    return f"{1e9 * best_time(lambda: filters[name](scan, window), rounds) / len(scan):.3f}"
 
 
-def main(peer, scan_file):
+def main(peer, scan_file, rounds):
     try:
         version, filters = {"SciPy": scipy_filters, "OpenCV": opencv_filters}[peer]()
     except ImportError:
@@ -81,7 +78,7 @@ def main(peer, scan_file):
     scan = numpy.fromfile(scan_file, "uint16")
     for name, windows in (("median", (3, 5, 9)), ("opening", (3, 5))):
         for window in windows:
-            print(f"{name} {window}\t{row(filters, scan, name, window)}")
+            print(f"{name} {window}\t{row(filters, scan, name, window, int(rounds))}")
     ends = filters["opening"](numpy.array([5, 0, 0], "uint16"), 3)
     print("ends\t" + " ".join(map(str, ends)))
 
