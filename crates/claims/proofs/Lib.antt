@@ -3,4 +3,6 @@ pub mod Outcomes
 pub mod Chain
 pub mod Filters
 pub mod Ranks
+pub mod Sheets
 pub mod Claims
+pub mod Nights

@@ -2,7 +2,7 @@
 use Prim.Native.Nat.{ℕ, _≤_, _<_}
 use mathlib.Core.Path.{_≡_}
 use mathlib.Core.Bool.{Bool}
-use mathlib.Core.List.{List, [], _∷_, map}
+use mathlib.Core.List.{List, [], _∷_, map, flatMap}
 use lib.IntN.{pos, negsuc, _+ℤ_}
 use lib.ListN.{length, getD}
 use Rattle.limits.specs.Limits.{mostTerms, top}
@@ -15,6 +15,8 @@ use Rattle.recipes.specs.Meaning.{valueAt}
 use Rattle.compiler.specs.Compile.{Compile}
 use Rattle.files.specs.declared.ReadAnswer.the-variants as read
 use Rattle.files.specs.Files.{Read}
+use Rattle.totals.specs.declared.Outcome.{Outcome}
+use Rattle.lines.specs.Lines.{outcomeLine}
 
 -- every element is a byte
 abbrev pub Bytes : List ℕ → Type 0
@@ -47,3 +49,7 @@ pub data FormWritten (terms : List ℕ) (n : ℕ) : Type 0 where
 -- how many of some values pass a test
 unfoldable pub passing : {X : Type 0} → (X → Bool) → List X → ℕ
 passing p xs = length (keep p xs)
+
+-- a night's lines, one for each file, in the list's order
+abbrev pub linesAbove : List Outcome → List ℕ
+linesAbove outcomes = flatMap outcomeLine outcomes

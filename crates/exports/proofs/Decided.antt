@@ -46,7 +46,14 @@ module _ {code code′ value value′ : ℕ} where
       → (code ≡ code′) × (value ≡ value′) × (new ≡ new′)
   compile-decided = told-decided (λ a b p q. gives-decided (p .gives) (q .gives))
 
-  -- the form check, the root question, reading and counting: whatever else these write, their contracts give by an equation
+  -- those of them that change something else besides, which their contracts give by an equation: the night sheet's lines, and its totals
+  pub night-decided : {A : Type 0} {check : ℕ → Checked} {n : ℕ} {gift old new new′ : List A} {X : Type 0} {x x′ known : X}
+      → Told (Gives check n gift old new) code value → x ≡ known → Told (Gives check n gift old new′) code′ value′ → x′ ≡ known
+      → (code ≡ code′) × (value ≡ value′) × ((new ≡ new′) × (x ≡ x′))
+  night-decided t e t′ e′ =
+      told-decided (λ a b p q. let both = gives-decided p q in (both .0, (both .1, e ∙ sym e′))) t t′
+
+  -- the form check, the root question, reading, counting and the list of names: whatever else these write, their contracts give by an equation
   pub answer-decided : {answer : Answer} {X : Type 0} {x x′ known : X} → Told (λ a. a ≡ answer) code value → x ≡ known
       → Told (λ a. a ≡ answer) code′ value′ → x′ ≡ known → (code ≡ code′) × (value ≡ value′) × (x ≡ x′)
   answer-decided t e t′ e′ = told-decided (λ a b p q. (p ∙ sym q, e ∙ sym e′)) t t′

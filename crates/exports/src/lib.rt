@@ -1,17 +1,22 @@
-// The C interface: each function wraps one public call and is proved against the same promise.
+// The C interface: each function wraps one public call and is proved against the same promise. For a file of the night sheet there are two
+// calls, one that adds to the totals and one that writes the line.
 //
 // A slice is a pointer and a length; where the length is 0 the pointer may be null. The result is 0, or the
 // refusal's number; `*value` is what the call returns, or the refusal's place. On refusal nothing else is written. No function has a
 // `requires`, and nothing is assumed.
 use files::ReadAnswer;
+use limits::LINE_BYTES;
 use limits::WIDTH;
 use refusals::Answer;
+use refusals::Checked;
 use reports::CountAnswer;
 use scans::RootAnswer;
+use totals::Outcome;
+use totals::Totals;
 ghost use mathlib.Core.Path.{_≡_};
 ghost use mathlib.Core.List.{[], _∷_};
 ghost use lib.ListN.{length};
-ghost use Rattle.limits.specs.Limits.{width};
+ghost use Rattle.limits.specs.Limits.{width, lineBytes, totalsBytes};
 ghost use Rattle.theory.specs.Lists.{first};
 ghost use Rattle.theory.specs.Signals.{held, filteredAt};
 ghost use Rattle.refusals.specs.Refusals.{answered, answerOf, written};
@@ -24,8 +29,11 @@ ghost use Rattle.compiler.specs.Compile.{Compile};
 ghost use Rattle.files.specs.Layout.{countsFamily, fileTerms, fileSamples};
 ghost use Rattle.files.specs.Files.{Write, fileChecked, readChecked};
 ghost use Rattle.reports.specs.Counts.{countsIn};
-ghost use Rattle.lines.specs.Lines.{Line};
+ghost use Rattle.lists.specs.Names.{CheckList};
+ghost use Rattle.totals.specs.declared.Outcome.the-variants.{Unopened};
+ghost use Rattle.lines.specs.Lines.{Line, Writes, outcomeLine, totalsLine};
 ghost use Rattle.exports.specs.Told.{Told};
+ghost use Rattle.exports.specs.Sheet.{outcomeIn, totalsIn, summed};
 ghost use Rattle.exports.specs.Private.{sampleIn, samplesIn, termsIn, countedIn, fiveIn};
 
 // ---- what C is told
@@ -100,6 +108,35 @@ fn five_in(answer: CountAnswer, before: [u64; 5]) -> [u64; 5]
             counts.down,
         ],
         CountAnswer::Refused(_) => before,
+    }
+}
+
+// Eleven numbers, in the order of the night sheet's last line, as its totals.
+fn totals_in(eleven: [u64; 11]) -> Totals
+    ensures { λ r. ⌜ r ≡ totalsIn eleven ⌝ }
+{
+    Totals {
+        cleaned: eleven[0],
+        unopened: eleven[1],
+        seven: eleven[2],
+        eight: eleven[3],
+        nine: eleven[4],
+        eleven: eleven[5],
+        samples: eleven[6],
+        changed: eleven[7],
+        spikes: eleven[8],
+        up: eleven[9],
+        down: eleven[10],
+    }
+}
+
+// The totals after a file, with so many bytes lent for its line: with its outcome, or as they were where these are refused.
+fn sum(eleven: [u64; 11], outcome: Outcome, lent: usize) -> [u64; 11]
+    ensures { λ r. ⌜ r ≡ summed eleven outcome lent ⌝ }
+{
+    match refusals::check_lent(LINE_BYTES, lent) {
+        Checked::Fine => lines::eleven_of(totals::add(totals_in(eleven), outcome)),
+        Checked::Refused(_) => eleven,
     }
 }
 
@@ -241,4 +278,51 @@ pub extern "C" fn sf_line(file: &[u8], out: &mut [u8], value: &mut usize) -> u8
     ensures { λ r. ⌜ Told (Line (now (file .entry)) (now (out .entry)) (now (out .exit))) r (now (value .exit)) ⌝ }
 {
     tell(lines::line(file, out), value)
+}
+
+// ---- the night sheet, its totals eleven numbers in the order of its last line
+
+// Checks a list of file names; see lists::check. Refuses 20, 19; the number of names goes to `value`.
+#[no_mangle]
+pub extern "C" fn sf_night_list(text: &[u8], value: &mut usize) -> u8
+    ensures { λ r. ⌜ Told (CheckList (now (text .entry))) r (now (value .exit)) ⌝ }
+{
+    tell(lists::check(text), value)
+}
+
+// Adds a file that was read to the totals and writes its line; see totals::add and lines::outcome_line. Refuses 10, of `out` alone,
+// and then adds nothing; the line goes to `out`, its length to `value`.
+#[no_mangle]
+pub extern "C" fn sf_night_line(
+    file: &[u8],
+    totals: &mut [u64; 11],
+    out: &mut [u8],
+    value: &mut usize,
+) -> u8
+    ensures { λ r. ⌜ (let o = outcomeIn (now (file .entry)) in
+        Told (Writes lineBytes (outcomeLine o) (now (out .entry)) (now (out .exit))) r (now (value .exit))
+        × (now (totals .exit) ≡ summed (now (totals .entry)) o (length (now (out .entry))))) ⌝ }
+{
+    let outcome = Outcome::Opened(reports::count(file));
+    *totals = sum(*totals, outcome, out.len());
+    tell(lines::outcome_line(outcome, out), value)
+}
+
+// The same for a file that could not be opened or read.
+#[no_mangle]
+pub extern "C" fn sf_night_unopened(totals: &mut [u64; 11], out: &mut [u8], value: &mut usize) -> u8
+    ensures { λ r. ⌜ Told (Writes lineBytes (outcomeLine Unopened) (now (out .entry)) (now (out .exit))) r (now (value .exit))
+        × (now (totals .exit) ≡ summed (now (totals .entry)) Unopened (length (now (out .entry)))) ⌝ }
+{
+    *totals = sum(*totals, Outcome::Unopened, out.len());
+    tell(lines::outcome_line(Outcome::Unopened, out), value)
+}
+
+// The sheet's last line; see lines::totals_line. Refuses 10; the line goes to `out`, its length to `value`.
+#[no_mangle]
+pub extern "C" fn sf_night_totals(totals: &[u64; 11], out: &mut [u8], value: &mut usize) -> u8
+    ensures { λ r. ⌜ Told (Writes totalsBytes (totalsLine (totalsIn (now (totals .entry)))) (now (out .entry)) (now (out .exit)))
+        r (now (value .exit)) ⌝ }
+{
+    tell(lines::totals_line(totals_in(*totals), out), value)
 }

@@ -1,4 +1,4 @@
--- Every number of document 01, named once; src/lib.rt has the same names in capitals, in the same order.
+-- Every number of documents 01 and 02, named once; src/lib.rt has the same names in capitals, in the same order.
 use Prim.Native.Nat.{ℕ, _+_, _-_, _*_, _/_, _^_}
 
 -- an offset is -4 to 4
@@ -57,3 +57,17 @@ longestFile = wordBytes * mostSamples + wordBytes * mostTerms + trailerBytes
 -- the report's line is lent so many bytes, more than the longest has
 abbrev pub lineBytes : ℕ
 lineBytes = 128
+
+-- a list of names has at most so many lines, and a name 1 to so many bytes; a line feed ends each
+abbrev pub mostNames : ℕ
+mostNames = 250
+
+abbrev pub longestName : ℕ
+longestName = 255
+
+abbrev pub longestList : ℕ
+longestList = mostNames * (longestName + 1)
+
+-- the night sheet's last line is lent so many bytes, more than the longest has
+abbrev pub totalsBytes : ℕ
+totalsBytes = 512

@@ -1,4 +1,4 @@
-// Every number of document 01, named once. specs/Limits.antt has the same numbers for the contracts, name by name and in the same
+// Every number of documents 01 and 02, named once. specs/Limits.antt has the same numbers for the contracts, name by name and in the same
 // order; where one number follows from others it stands as that expression.
 
 // An offset is -4 to 4.
@@ -35,3 +35,13 @@ pub const LONGEST_FILE: usize = WORD_BYTES * MOST_SAMPLES + WORD_BYTES * MOST_TE
 
 // The report's line is lent so many bytes, more than the longest has.
 pub const LINE_BYTES: usize = 128;
+
+// A list of names has at most so many lines, and a name 1 to so many bytes; a line feed ends each.
+pub const MOST_NAMES: usize = 250;
+
+pub const LONGEST_NAME: usize = 255;
+
+pub const LONGEST_LIST: usize = MOST_NAMES * (LONGEST_NAME + 1);
+
+// The night sheet's last line is lent so many bytes, more than the longest has.
+pub const TOTALS_BYTES: usize = 512;

@@ -7,14 +7,13 @@ use Rattle.refusals.proofs.Checks.{through}
 use Rattle.files.specs.Layout.{countsFamily}
 use Rattle.files.specs.Files.{fileChecked}
 use Rattle.reports.specs.declared.CountAnswer.{CountAnswer}
-use Rattle.reports.specs.declared.CountAnswer.the-variants as count
+use Rattle.reports.specs.declared.CountAnswer.the-variants.{Counted, Refused}
 use Rattle.reports.specs.Counts.{Count, countsIn}
-use Rattle.lines.specs.Lines.{reportLine}
-use Rattle.lines.specs.Private.{lineIn}
+use Rattle.totals.specs.declared.Outcome.the-variants.{Opened}
+use Rattle.lines.specs.Lines.{outcomeLine, reportLine}
 
-pub line-counted : (f : List ℕ) {a : CountAnswer} → Count f a → lineIn a ≡ reportLine f
-unfolding reportLine
+pub line-counted : (f : List ℕ) {a : CountAnswer} → Count f a → outcomeLine (Opened a) ≡ reportLine f
+unfolding outcomeLine reportLine
 line-counted f e =
-    ap lineIn e
-    ∙ through (fileChecked countsFamily f) lineIn
-    (count.Counted (countsIn f)) count.Refused
+    let line : CountAnswer → List ℕ = λ a. outcomeLine (Opened a) in
+    ap line e ∙ through (fileChecked countsFamily f) line (Counted (countsIn f)) Refused

@@ -25,7 +25,7 @@ pub length-decimal : (n : ℕ) → length (decimal n) ≡ digitsOf n
 unfolding decimal
 length-decimal n = length-digits 10 (digitsOf n) n
 
-lt-power : (j : ℕ) → j < 10 ^ j
+pub lt-power : (j : ℕ) → j < 10 ^ j
 lt-power zero = omega arith
 lt-power (suc j) = omega (arith, pow-suc 10 j, lt-power j)
 

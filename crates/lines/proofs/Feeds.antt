@@ -2,7 +2,7 @@
 -- Assumes nothing.
 use Prim.Native.Nat.{ℕ, zero, suc, _+_, _/_, _%_}
 use native.Mathlib.Omega.{arith}
-use mathlib.Core.Path.{_≡_, refl, sym, ap, _∙_}
+use mathlib.Core.Path.{_≡_, refl, sym, ap, _∙_, subst}
 use mathlib.Core.Bool.{Bool, true, false, not}
 use mathlib.Core.List.{List, [], _∷_, _++_, append-assoc}
 use mathlib.Core.Logic.{_⊎_, inl, inr}
@@ -11,15 +11,13 @@ use borrow.Author.Tests.{ne-eqb}
 use Rattle.io.specs.Digits.{glyph, digits}
 use Rattle.theory.specs.Lists.{all}
 use Rattle.theory.proofs.Tests.{which, and-left, and-right, and-both}
-use Rattle.refusals.specs.declared.Refusal.{Refusal}
-use Rattle.refusals.specs.declared.Checked.{Checked}
-use Rattle.refusals.specs.declared.Checked.the-variants.{Fine, Refused}
-use Rattle.refusals.specs.Refusals.{answered}
-use Rattle.files.specs.Layout.{countsFamily}
-use Rattle.files.specs.Files.{fileChecked}
-use Rattle.reports.specs.declared.Counts.{Counts}
-use Rattle.reports.specs.Counts.{countsIn}
-use Rattle.lines.specs.Lines.{digitsOf, decimal, lineOf, countsLine, refusedWord, refusedLine, reportLine}
+use Rattle.reports.specs.declared.CountAnswer.the-variants.{Counted, Refused}
+use Rattle.totals.specs.declared.Outcome.{Outcome}
+use Rattle.totals.specs.declared.Outcome.the-variants.{Unopened, Opened}
+use Rattle.totals.specs.declared.Totals.{Totals}
+use Rattle.lines.specs.Lines.{digitsOf, decimal, lineOf, refusedWord, unopenedWord, reportLine, outcomeLine, elevenOf, totalsLine}
+use Rattle.lines.proofs.Counted.{line-counted}
+use Rattle.lines.proofs.Fields.{Each, each-all, fields, each-field, wordsOf, numbersOf, outcome-fields, totals-fields}
 
 -- a byte that is no line feed, and bytes with none among them
 abbrev pub isPlain : ℕ → Bool
@@ -55,45 +53,38 @@ plain-decimal : (n : ℕ) → Plain (decimal n)
 unfolding decimal
 plain-decimal n = plain-digits (digitsOf n) n
 
+plain-words : (o : Outcome) → Each Plain (wordsOf o)
+unfolding all unopenedWord refusedWord
+plain-words Unopened = (refl, tt)
+plain-words (Opened (Counted c)) = tt
+plain-words (Opened (Refused r)) = (refl, tt)
+
 -- ---- lines
 
-last-field : (field : List ℕ) → Plain field → OneFeed (field ++ (10 ∷ []))
-last-field field p = record { front = field; ends = refl; plain = p }
+-- of any fields without line feeds
+pub one-feed : (fs : List (List ℕ)) → Each Plain fs → OneFeed (lineOf fs)
+unfolding lineOf all
+one-feed [] p = record { front = []; ends = refl; plain = refl }
+one-feed (field ∷ []) p = record { front = field; ends = refl; plain = p .0 }
+one-feed (field ∷ next ∷ fs) p =
+    let rest = one-feed (next ∷ fs) (p .1) in
+    record {
+      front = field ++ (32 ∷ rest .front);
+      ends = ap (λ (r : List ℕ). field ++ (32 ∷ r)) (rest .ends) ∙ sym (append-assoc field (32 ∷ rest .front) (10 ∷ []));
+      plain = plain-both field (32 ∷ rest .front) (p .0) (rest .plain);
+    }
 
-next-field : (field rest : List ℕ) → Plain field → OneFeed rest → OneFeed (field ++ (32 ∷ rest))
-unfolding all
-next-field field rest p l = record {
-  front = field ++ (32 ∷ l .front);
-  ends = ap (λ (r : List ℕ). field ++ (32 ∷ r)) (l .ends) ∙ sym (append-assoc field (32 ∷ l .front) (10 ∷ []));
-  plain = plain-both field (32 ∷ l .front) p (l .plain);
-}
+fields-feed : (words : List (List ℕ)) (numbers : List ℕ) → Each Plain words → OneFeed (lineOf (fields words numbers))
+fields-feed words numbers w = one-feed (fields words numbers) (each-field Plain words numbers w (each-all plain-decimal numbers))
 
-counts-feed : (c : Counts) → OneFeed (countsLine c)
-unfolding countsLine lineOf
-counts-feed c =
-    next-field (decimal (c .samples)) _ (plain-decimal (c .samples))
-    (next-field (decimal (c .changed)) _ (plain-decimal (c .changed))
-    (next-field (decimal (c .spikes)) _ (plain-decimal (c .spikes))
-    (next-field (decimal (c .up)) _ (plain-decimal (c .up)) (last-field (decimal (c .down)) (plain-decimal (c .down))))))
+-- the line of any outcome ends with its only line feed
+pub outcome-feed : (o : Outcome) → OneFeed (outcomeLine o)
+outcome-feed o = rw (outcome-fields o) (fields-feed (wordsOf o) (numbersOf o) (plain-words o))
 
-plain-word : Plain refusedWord
-unfolding all refusedWord
-plain-word = refl
+-- the line of any totals does
+pub totals-feed : (t : Totals) → OneFeed (totalsLine t)
+totals-feed t = rw (totals-fields t) (fields-feed [] (elevenOf t) tt)
 
-refused-feed : (r : Refusal) → OneFeed (refusedLine r)
-unfolding refusedLine lineOf
-refused-feed r =
-    next-field refusedWord _ plain-word
-    (next-field (decimal (r .number)) _ (plain-decimal (r .number)) (last-field (decimal (r .place)) (plain-decimal (r .place))))
-
--- the line of any file ends with its only line feed
+-- the line of any file does
 pub line-feed : (f : List ℕ) → OneFeed (reportLine f)
-unfolding reportLine
-line-feed f = go (fileChecked countsFamily f)
-  where
-    c : Counts
-    c = countsIn f
-
-    go : (check : Checked) → OneFeed (answered check (countsLine c) refusedLine)
-    go Fine = counts-feed c
-    go (Refused r) = refused-feed r
+line-feed f = subst OneFeed (line-counted f refl) (outcome-feed _)

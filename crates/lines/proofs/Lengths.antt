@@ -1,76 +1,83 @@
--- How long a line is: that of any file of bytes fits in its room, so that a slice of 128 bytes is always enough.
+-- How long a line is: those of any file of bytes and of any totals fit in their rooms, so that slices of 128 and 512 bytes are always enough.
 -- Assumes nothing.
-use Prim.Native.Nat.{ℕ, _+_, _^_, _≤_, _<_}
+use Prim.Native.Nat.{ℕ, _+_, _*_, _^_, _≤_, _<_}
 use native.Mathlib.Nat.{le-trans}
 use native.Mathlib.Omega.{arith}
-use mathlib.Core.Path.{_≡_, ap, _∙_}
+use mathlib.Core.Path.{_≡_, refl, ap, _∙_, subst}
 use mathlib.Core.List.{List, [], _∷_, _++_}
 use lib.Dec.{lit≤}
 use lib.ListN.{length, drop, length-append}
-use Rattle.limits.specs.Limits.{lineBytes}
-use Rattle.refusals.specs.declared.Refusal.{Refusal}
+use Rattle.limits.specs.Limits.{lineBytes, totalsBytes}
 use Rattle.refusals.specs.declared.Checked.{Checked}
-use Rattle.refusals.specs.declared.Checked.the-variants.{Fine, Refused}
 use Rattle.refusals.specs.declared.Answer.the-variants.{Done}
-use Rattle.refusals.specs.Refusals.{answered}
-use Rattle.refusals.specs.Shared.{lentChecked}
+use Rattle.refusals.specs.Promise.{Gives}
 use Rattle.refusals.proofs.Checks.{done-fine}
-use Rattle.files.specs.Layout.{countsFamily, fileTerms}
-use Rattle.files.specs.Files.{fileChecked}
 use Rattle.files.proofs.Words.{Bytes}
-use Rattle.reports.specs.declared.Counts.{Counts}
-use Rattle.reports.specs.Counts.{countsIn}
-use Rattle.lines.specs.Lines.{decimal, lineOf, countsLine, refusedWord, refusedLine, reportLine, Line}
+use Rattle.reports.specs.declared.CountAnswer.the-variants.{Counted, Refused}
+use Rattle.totals.specs.declared.Outcome.{Outcome}
+use Rattle.totals.specs.declared.Outcome.the-variants.{Unopened, Opened}
+use Rattle.totals.specs.declared.Totals.{Totals}
+use Rattle.totals.specs.Nights.{OfFile, opened}
+use Rattle.totals.proofs.Fields.{Field, at, cleaned, unopened, seven, eight, nine, eleven, samples, changed, spikes, up, down}
+use Rattle.lines.specs.Lines.{decimal, lineOf, refusedWord, unopenedWord, reportLine, outcomeLine, elevenOf, totalsLine}
 use Rattle.lines.proofs.Decimals.{length-decimal, digits-short}
-use Rattle.lines.proofs.Bounds.{Small, Few, file-small, counts-small}
+use Rattle.lines.proofs.Counted.{line-counted}
+use Rattle.lines.proofs.Bounds.{numbers-fit}
+use Rattle.lines.proofs.Fields.{Each, each-so, Fits, fields, each-field, wordsOf, numbersOf, outcome-fields, totals-fields}
 
 number-most : (n : ℕ) → n < 2 ^ 64 → length (decimal n) ≤ 20
 number-most n h = omega (arith, length-decimal n, digits-short n h)
 
--- a field, the byte behind it, and what follows
-field-most : (field : List ℕ) (b : ℕ) (rest : List ℕ) (m k : ℕ) → length field ≤ m → length rest ≤ k → length (field ++ (b ∷ rest)) ≤ m + 1 + k
-field-most field b rest m k h l = omega (arith, length-append field (b ∷ rest), h, l)
+-- a field of at most as many bytes as the longest number
+abbrev Short : List ℕ → Type 0
+Short field = length field ≤ 20
 
-counts-most : (c : Counts) → Few c → length (countsLine c) ≤ lineBytes
-unfolding countsLine lineOf
-counts-most c h =
-    le-trans
-    (field-most (decimal (c .samples)) 32 _ 20 84 (number-most _ (h .0))
-    (field-most (decimal (c .changed)) 32 _ 20 63 (number-most _ (h .1))
-    (field-most (decimal (c .spikes)) 32 _ 20 42 (number-most _ (h .2))
-    (field-most (decimal (c .up)) 32 _ 20 21 (number-most _ (h .3))
-    (field-most (decimal (c .down)) 10 [] 20 0 (number-most _ (h .4)) (omega arith))))))
-    (lit≤ tt)
+short-words : (o : Outcome) → Each Short (wordsOf o)
+unfolding unopenedWord refusedWord
+short-words Unopened = (lit≤ tt, tt)
+short-words (Opened (Counted c)) = tt
+short-words (Opened (Refused r)) = (lit≤ tt, tt)
 
-word-most : length refusedWord ≤ 7
-unfolding refusedWord
-word-most = lit≤ tt
+-- a line of short fields: each has a byte behind it
+fields-most : (fs : List (List ℕ)) → Each Short fs → length (lineOf fs) ≤ 21 * length fs + 1
+unfolding lineOf
+fields-most [] h = omega arith
+fields-most (field ∷ []) h = omega (arith, length-append field (10 ∷ []), h .0)
+fields-most (field ∷ next ∷ fs) h = omega (arith, length-append field (32 ∷ lineOf (next ∷ fs)), h .0, fields-most (next ∷ fs) (h .1))
 
-refused-most : (r : Refusal) → r .number < 2 ^ 64 → r .place < 2 ^ 64 → length (refusedLine r) ≤ lineBytes
-unfolding refusedLine lineOf
-refused-most r h l =
-    le-trans
-    (field-most refusedWord 32 _ 7 42 word-most
-    (field-most (decimal (r .number)) 32 _ 20 21 (number-most _ h)
-    (field-most (decimal (r .place)) 10 [] 20 0 (number-most _ l) (omega arith))))
-    (lit≤ tt)
+line-most : (room : ℕ) (words : List (List ℕ)) (numbers : List ℕ) → Each Short words → Each Fits numbers
+    → 21 * length (fields words numbers) + 1 ≤ room → length (lineOf (fields words numbers)) ≤ room
+line-most room words numbers w n h =
+    le-trans (fields-most (fields words numbers) (each-field Short words numbers w (each-so number-most numbers n))) h
 
--- the line of any file of bytes has room in 128
+few-fields : (o : Outcome) → 21 * length (fields (wordsOf o) (numbersOf o)) + 1 ≤ lineBytes
+few-fields Unopened = lit≤ tt
+few-fields (Opened (Counted c)) = lit≤ tt
+few-fields (Opened (Refused r)) = lit≤ tt
+
+-- the line of any outcome whose numbers are of 64 bits has room in 128
+pub outcome-short : (o : Outcome) → Each Fits (numbersOf o) → length (outcomeLine o) ≤ lineBytes
+outcome-short o h = rw (outcome-fields o) (line-most lineBytes (wordsOf o) (numbersOf o) (short-words o) h (few-fields o))
+
+-- that of whatever becomes of a file of bytes does
+pub file-short : {o : Outcome} → OfFile o → length (outcomeLine o) ≤ lineBytes
+file-short {o} h = outcome-short o (numbers-fit h)
+
+-- and so does the report's line
 pub line-short : (f : List ℕ) → Bytes f → length (reportLine f) ≤ lineBytes
-unfolding reportLine
-line-short f bytes = go (fileChecked countsFamily f) (file-small f bytes)
-  where
-    c : Counts
-    c = countsIn f
+line-short f bytes = subst (λ (line : List ℕ). length line ≤ lineBytes) (line-counted f refl) (file-short (opened f bytes _ refl))
 
-    go : (check : Checked) → Small check → length (answered check (countsLine c) refusedLine) ≤ lineBytes
-    go Fine s = counts-most c (counts-small f bytes (fileTerms f))
-    go (Refused r) s = refused-most r (s .0) (s .1)
+-- the line of any totals of 64 bits has room in 512
+pub totals-short : (t : Totals) → ((field : Field) → Fits (at field t)) → length (totalsLine t) ≤ totalsBytes
+totals-short t h =
+    let each : Each Fits (elevenOf t) =
+    (h cleaned, (h unopened, (h seven, (h eight, (h nine, (h eleven, (h samples, (h changed, (h spikes, (h up, (h down, tt))))))))))) in
+    rw (totals-fields t) (line-most totalsBytes [] (elevenOf t) tt each (lit≤ tt))
 
--- where the slice keeps its length, as slices do, the answer lies in it
-pub line-fits : (f old new : List ℕ) (n : ℕ) → Line f old new (Done n) → length new ≡ length old → n ≤ length new
-line-fits f old new n p same =
-    let line = reportLine f in
-    let fine = done-fine (lentChecked lineBytes (length old)) (length line) n (p .answer) in
-    let joined = ap length (rw (fine .0) at (p .out)) ∙ length-append line (drop (length line) old) in
+-- a text that a call writes: where the slice keeps its length, as slices do, the answer lies in it
+pub line-fits : {check : ℕ → Checked} (text old new : List ℕ) (n : ℕ) → Gives check (length text) text old new (Done n)
+    → length new ≡ length old → n ≤ length new
+line-fits {check} text old new n p same =
+    let fine = done-fine (check (length old)) (length text) n (p .answer) in
+    let joined = ap length (rw (fine .0) at (p .out)) ∙ length-append text (drop (length text) old) in
     omega (arith, fine .1, joined, same)

@@ -1,7 +1,9 @@
--- The laws of the report's line.
+-- The laws of the lines.
 pub mod Decimals
+pub mod Numbers
 pub mod Puts
 pub mod Counted
+pub mod Fields
 pub mod Decided
 pub mod Bounds
 pub mod Lengths

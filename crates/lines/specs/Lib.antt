@@ -1,3 +1,3 @@
--- What the contract of the report's line cites, and what private contracts alone cite.
+-- What the contracts of the lines cite, and what private contracts alone cite.
 pub mod Lines
 pub mod Private

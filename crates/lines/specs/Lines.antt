@@ -1,6 +1,7 @@
--- The line that the report program prints: "Single spaces stand between fields and one line feed at the end." Bytes are ASCII.
+-- The lines that the report program and the night sheet print: "Single spaces stand between fields and one line feed at the end." Bytes
+-- are ASCII.
 use Prim.Native.Nat.{ℕ, suc, _^_}
-use mathlib.Core.List.{List, [], _∷_, _++_}
+use mathlib.Core.List.{List, [], _∷_, _++_, map}
 use lib.Dec.{ltb}
 use lib.ListN.{length}
 use Rattle.io.specs.Digits.{digits}
@@ -14,7 +15,11 @@ use Rattle.refusals.specs.Promise.{Gives}
 use Rattle.files.specs.Layout.{countsFamily}
 use Rattle.files.specs.Files.{fileChecked}
 use Rattle.reports.specs.declared.Counts.{Counts}
+use Rattle.reports.specs.declared.CountAnswer.the-variants.{Counted, Refused}
 use Rattle.reports.specs.Counts.{countsIn}
+use Rattle.totals.specs.declared.Outcome.{Outcome}
+use Rattle.totals.specs.declared.Outcome.the-variants.{Unopened, Opened}
+use Rattle.totals.specs.declared.Totals.{Totals}
 
 -- how many decimal digits a number has: the fewest that hold it, and at least one
 unfoldable pub digitsOf : ℕ → ℕ
@@ -47,6 +52,34 @@ refusedLine r = lineOf (refusedWord ∷ decimal (r .number) ∷ decimal (r .plac
 unfoldable pub reportLine : List ℕ → List ℕ
 reportLine f = answered (fileChecked countsFamily f) (countsLine (countsIn f)) refusedLine
 
--- the line of a file from the start of the slice lent, and its length; 10 where the slice has another length than a line's room
+-- the word `unopened`
+unfoldable pub unopenedWord : List ℕ
+unopenedWord = 117 ∷ 110 ∷ 111 ∷ 112 ∷ 101 ∷ 110 ∷ 101 ∷ 100 ∷ []
+
+-- `unopened` alone
+unfoldable pub unopenedLine : List ℕ
+unopenedLine = lineOf (unopenedWord ∷ [])
+
+-- the night sheet's line of a file: `unopened`, its counts, or why it is refused
+unfoldable pub outcomeLine : Outcome → List ℕ
+outcomeLine Unopened = unopenedLine
+outcomeLine (Opened (Counted c)) = countsLine c
+outcomeLine (Opened (Refused r)) = refusedLine r
+
+-- the totals in the order of the night sheet's last line: the files cleaned, not opened, refused under 7, 8, 9 and 11; then the sums, in the
+-- order of a file's counts
+abbrev pub elevenOf : Totals → List ℕ
+elevenOf t =
+    t .cleaned ∷ t .unopened ∷ t .seven ∷ t .eight ∷ t .nine ∷ t .eleven ∷ t .samples ∷ t .changed ∷ t .spikes ∷ t .up ∷ t .down ∷ []
+
+-- the night sheet's last line: eleven numbers
+unfoldable pub totalsLine : Totals → List ℕ
+totalsLine t = lineOf (map decimal (elevenOf t))
+
+-- a line from the start of the slice lent, and its length; 10 where the slice has another length than the room that it wants
+abbrev pub Writes : ℕ → List ℕ → List ℕ → List ℕ → Answer → Type 0
+Writes room text = Gives (lentChecked room) (length text) text
+
+-- the line of a file
 abbrev pub Line : List ℕ → List ℕ → List ℕ → Answer → Type 0
-Line f = Gives (lentChecked lineBytes) (length (reportLine f)) (reportLine f)
+Line f = Writes lineBytes (reportLine f)

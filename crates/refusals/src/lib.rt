@@ -61,6 +61,13 @@ pub const TABLE_LENGTH: u8 = 13;
 // A preset number is over 19; the number.
 pub const PRESET_NUMBER: u8 = 14;
 
+// ---- of lists of names
+
+// A line of the list is empty or too long; the first such, from 1.
+pub const BAD_NAME: u8 = 19;
+// The list has over 250 lines; 250.
+pub const NAME_COUNT: u8 = 20;
+
 // ---- checks and answers
 
 // Refused exactly when the condition holds.

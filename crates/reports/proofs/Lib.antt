@@ -4,3 +4,5 @@ pub mod Spikes
 pub mod Residues
 pub mod Counted
 pub mod Decided
+pub mod Bounds
+pub mod Refused

@@ -6,7 +6,7 @@ use native.Mathlib.Numerals.{add-one}
 use native.Mathlib.Omega.{arith}
 use mathlib.Core.Path.{_≡_, refl}
 use mathlib.Core.List.{[], _∷_, _++_}
-use lib.ListN.{length, drop, drop-of-length-le, length-set}
+use lib.ListN.{length, length-append, drop, drop-of-length-le, length-set}
 use lib.Seq.{sets, drop-cons}
 use Rattle.lines.proofs.put_field.Statement.{statement}
 use Rattle.lines.proofs.put_field.Tie as tie
@@ -68,8 +68,14 @@ returns : tie.Need-returns Inv-loop μ-loop
 returns c =
     let at = c .before in
     let a = at .before .args in
-    let whole : at .loop .i ≡ length (a .field .now) = omega arith in
-    (rw (drop-of-length-le (a .field .now) {i = at .loop .i} (omega arith)) at (at .loop .inv .2), rw whole)
+    let field = a .field .now in
+    let whole : at .loop .i ≡ length field = omega arith in
+    let next = length-append field (a .end ∷ []) in
+    record {
+      out = rw (drop-of-length-le field {i = at .loop .i} (omega arith)) at (at .loop .inv .2);
+      next = omega (arith, whole, next);
+      room = omega (arith, whole, next);
+    }
 
 pub put-field-spec : {M : Type 1} → statement M
 put-field-spec =

@@ -4,8 +4,8 @@ use Prim.Native.Nat.{ℕ, _+_}
 use native.Mathlib.Omega.{arith}
 use mathlib.Core.Path.{_≡_, ap, _∙_}
 use mathlib.Core.List.{List, [], _∷_, _++_}
-use lib.ListN.{length, take}
-use lib.Seq.{sets, length-take-le}
+use lib.ListN.{length-append, take}
+use lib.Seq.{length-take-le}
 use Rattle.io.specs.Digits.{digits}
 use Rattle.lines.specs.Lines.{decimal}
 use Rattle.lines.proofs.Decimals.{length-decimal, digits-fewest, digits-short}
@@ -44,11 +44,8 @@ returns c =
     let few = digits-fewest (a .number) k (wrote .decimal .ensures .1 .0) in
     let text : take k (wrote .decimal .last .1 .0) ≡ decimal (a .number) =
     wrote .decimal .ensures .1 .1 ∙ ap (λ (m : ℕ). digits 10 m (a .number)) few in
-    let next = put .put-field .ensures .1 ∙ ap (λ (t : List ℕ). a .at + length t + 1) text in (
-      put .put-field .ensures .0 ∙ ap (λ (t : List ℕ). sets (a .out .now) (a .at) (t ++ (a .end ∷ []))) text,
-      next,
-      omega (arith, next, length-decimal (a .number), digits-short (a .number) (s .fits .number .fits)),
-    )
+    let line = rw text at (put .put-field .ensures) in
+    (line, omega (arith, line .next, length-append (decimal (a .number)) (a .end ∷ []), length-decimal (a .number), digits-short (a .number) (s .fits .number .fits)))
 
 pub put-number-spec : {M : Type 1} → statement M
 put-number-spec =

@@ -1,0 +1,3 @@
+-- What the contracts of lists of names cite.
+pub mod Names
+pub mod Judge
