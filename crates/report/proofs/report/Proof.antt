@@ -28,6 +28,9 @@ array-share-prefix-line c = fits c
 slice-aggregate-print : tie.Need-slice-aggregate-print
 slice-aggregate-print c = sym (length-take-le _ _ (fits (c .before)))
 
+slice-aggregate-print-2 : tie.Need-slice-aggregate-print-2
+slice-aggregate-print-2 c = search needs
+
 print-requires : tie.Need-print-requires
 print-requires c κs = search needs
 
@@ -49,6 +52,7 @@ report-spec =
     enum-known-answer
     array-share-prefix-line
     slice-aggregate-print
+    slice-aggregate-print-2
     print-requires
     enum-told
     returns

@@ -1,4 +1,4 @@
--- `report::complain` meets its contract: an error's number is positive. Assumes nothing.
+-- `system::complain` meets its contract: an error's number is positive. Assumes nothing.
 use borrow.Author.Needs.{needs}
 use Prim.Native.Nat.{ℕ}
 use native.Mathlib.Omega.{arith}
@@ -8,8 +8,8 @@ use lib.Dec.{T}
 use lib.IntN.{ℤ, pos, negsuc}
 use lib.Signed.{ltZ, nonNeg}
 use mir.Facts.{toZ-ofZ, fits-natAbs}
-use Rattle.report.proofs.complain.Statement.{statement}
-use Rattle.report.proofs.complain.Tie as tie
+use Rattle.system.proofs.complain.Statement.{statement}
+use Rattle.system.proofs.complain.Tie as tie
 
 positive : (z : ℤ) → ltZ (pos 0) z ≡ true → T (nonNeg z)
 positive (pos n) e = tt

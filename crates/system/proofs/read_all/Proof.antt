@@ -1,17 +1,17 @@
--- `report::read_input` meets its contract: it never has more bytes than the slice. Assumes nothing.
+-- `system::read_all` meets its contract: it never has more bytes than the slice. Assumes nothing.
 use borrow.Author.Needs.{needs}
 use Prim.Native.Nat.{_≤_}
 use mathlib.Core.Path.{_≡_, refl, sym}
 use lib.ListN.{length}
 use lib.Seq.{length-take-le}
-use Rattle.report.proofs.read_input.Statement.{statement}
-use Rattle.report.proofs.read_input.Tie as tie
+use Rattle.system.proofs.read_all.Statement.{statement}
+use Rattle.system.proofs.read_all.Tie as tie
 
 abbrev Inv-loop : tie.InvT-loop
-Inv-loop input₀ read₀ left₀ input read left = (length input ≡ length input₀) × (read .bytes ≤ length input)
+Inv-loop fd input₀ read₀ left₀ input read left = (length input ≡ length input₀) × (read .bytes ≤ length input)
 
 abbrev μ-loop : tie.MeasureT-loop
-μ-loop input₀ read₀ left₀ input read left = left
+μ-loop fd input₀ read₀ left₀ input read left = left
 
 loop-holds : tie.Need-loop-holds Inv-loop μ-loop
 loop-holds c = (refl, search needs)
@@ -44,8 +44,8 @@ returns-2 c =
     let at = c .before .before in
     (at .loop .inv .1, sym (length-take-le (at .loop .read .bytes) (at .loop .input) (at .loop .inv .1)))
 
-pub read-input-spec : {M : Type 1} → statement M
-read-input-spec =
+pub read-all-spec : {M : Type 1} → statement M
+read-all-spec =
     tie.close
     (tie.spec
     Inv-loop

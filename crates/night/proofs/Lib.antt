@@ -1,0 +1,3 @@
+-- Laws of the night program, for its proofs.
+pub mod Pieces
+pub mod Sheets

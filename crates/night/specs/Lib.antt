@@ -1,0 +1,2 @@
+-- What the contracts of the night program cite.
+pub mod Private
