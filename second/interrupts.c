@@ -1,5 +1,5 @@
-/* For report_files.py, loaded before the C library: every other read is interrupted and the others give at most 5 bytes; a write takes
- * at most 3. */
+/* For report_files.py and night_files.py, loaded before the C library: every other read is interrupted and the others give at most 5
+ * bytes; a write takes at most 3. */
 #define _GNU_SOURCE
 #include <errno.h>
 #include <sys/syscall.h>

@@ -14,7 +14,6 @@ can be loaded before the C library), and several at once that append to one file
 
 import errno
 import os
-import pathlib
 import platform
 import signal
 import subprocess
@@ -25,6 +24,7 @@ import time
 from chance import Chance
 from groups import lines, reports
 from groups.files import WORKED_FILE
+from programs import check_said, expect, interrupts, run
 from rules.lines import line_of
 
 WORKED = bytes(WORKED_FILE)
@@ -34,35 +34,16 @@ AT_ONCE, EACH = 4, 25
 
 # ---- a run, and what it is to print
 
-def expect(what, found, wanted):
-    if found != wanted:
-        sys.exit("%s: %r, and not %r" % (what, found, wanted))
-
-
-def run(command, **streams):
-    """What the program printed, and what it said on standard error."""
-    streams.setdefault("stdout", subprocess.PIPE)
-    done = subprocess.run(command, stderr=subprocess.PIPE, timeout=60, **streams)
-    return done.stdout, done.stderr
-
-
-def check_said(what, said, sentence, number):
-    """One line on standard error, with the error's number in it."""
-    if not (said.startswith(b"report: " + sentence) and b"; error %d: " % number in said
-            and said.count(b"\n") == 1 and said.endswith(b"\n")):
-        sys.exit("%s: said %r" % (what, said))
-
-
 def check_unread(command, what, number, **streams):
     """No line is printed, and standard error says why."""
     printed, said = run(command, **streams)
     expect(what, printed, b"")
-    check_said(what, said, b"no line is printed, since standard input could not be read", number)
+    check_said(what, said, b"report: no line is printed, since standard input could not be read", number)
 
 
 def check_unwritten(command, what, number, **streams):
     _, said = run(command, input=WORKED, **streams)
-    check_said(what, said, b"the line could not be written whole", number)
+    check_said(what, said, b"report: the line could not be written whole", number)
 
 
 # ---- whole files
@@ -136,14 +117,8 @@ def check_stopped(command):
 # ---- reads that are interrupted, writes that are cut short
 
 def check_interrupted(command):
-    """No signal can be made to interrupt a read from outside: interrupts.c says that one did."""
-    source = pathlib.Path(__file__).with_name("interrupts.c")
-    with tempfile.TemporaryDirectory() as folder:
-        loaded = os.path.join(folder, "interrupts.so")
-        subprocess.run([os.environ.get("CC", "cc"), "-shared", "-fPIC", "-o", loaded, source],
-                       check=True)
-        expect("interrupted reads and short writes",
-               run(command, input=WORKED, env={**os.environ, "LD_PRELOAD": loaded}),
+    with interrupts() as settings:
+        expect("interrupted reads and short writes", run(command, input=WORKED, env=settings),
                (WORKED_LINE, b""))
 
 

@@ -1,4 +1,4 @@
-"""The second program itself, against the scope document's worked cases and the papers' vectors.
+"""The second program itself, against the documents' worked cases and the papers' vectors.
 
     python3 second/test_second.py
 """
@@ -10,13 +10,13 @@ from chance import Chance, accepted_recipe, any_form, damaged_form, recipe_of, s
 from groups.forms import LONGEST_FORM
 from groups.recipes import closing, dilate, erode, median, opening, rank, signal, smaller
 from groups.scans import MEDIAN_3, MEDIAN_5, dual, mirrored, runs
-from rules import files, forms, limits, lines, recipes, scans
+from rules import files, forms, limits, lines, lists, nights, recipes, scans
 from rules.forms import number_of
 from rules.limits import (LARGEST_SET, LONGEST_RECIPE, MOST_SAMPLES, MOST_SIGNALS, MOST_STEPS,
                           MOST_TERMS, PRESETS, REACH, TABLE_BYTES, TOP, WIDTH)
 from rules.recipes import SMALLER, Step
 from rules.refusals import Refused
-from vectors import CASES
+from vectors import CRATES, GROUPS
 from wire import call, checksum, line, record
 
 
@@ -60,6 +60,8 @@ class ScopeDocument(Case):
         self.assertEqual((MOST_STEPS, LONGEST_RECIPE, MOST_SIGNALS, PRESETS), (32, 128, 8, 20))
         self.assertEqual((limits.TRAILER_BYTES, limits.LONGEST_FILE, limits.LINE_BYTES),
                          (12, 33032, 128))
+        self.assertEqual((limits.MOST_NAMES, limits.LONGEST_NAME, limits.TOTALS_BYTES),
+                         (250, 255, 512))
 
     def test_forms_of_recipes(self):
         self.assertEqual(form(signal), [16])
@@ -178,6 +180,148 @@ class Readings(Case):
     def test_spike_is_a_run_that_cannot_be_lengthened(self):
         self.assertEqual(files.count(files.file_of(MEDIAN_3, [10, 10, 90, 0, 10, 10])),
                          (6, 2, 1, 80, 10))
+
+
+class NightSheet(Case):
+    """Request 1, by hand."""
+
+    # A name a line, and what stands in the file.
+    FILES = {
+        b"worked": files.file_of(MEDIAN_3, [10, 10, 90, 10, 10]),
+        b"two": files.file_of(MEDIAN_3, [10, 10, 90, 0, 10, 10]),
+        b"down": files.file_of([0], [65534]),
+        b"seven": files.file_of([24, 16], [1]),
+        b"nine": files.file_of([16], []),
+        b"eleven": [],
+        b" a b\r": files.file_of([16], [1]),
+    }
+
+    def names(self, text, *expected):
+        self.assertEqual(lists.names_in(text), list(expected))
+
+    def test_lines_of_a_list(self):
+        self.names(b"")
+        self.names(b"a", b"a")
+        self.names(b"a\n", b"a")
+        self.names(b"a\nb", b"a", b"b")
+        self.names(b"a\nb\n", b"a", b"b")
+        self.names(b" a \r\n\xff", b" a \r", b"\xff")
+        self.names(b"\r\n\0\n", b"\r", b"\0")
+        self.names(b"a\x0bb\x0cc\x1cd\x85e", b"a\x0bb\x0cc\x1cd\x85e")
+
+    def test_empty_lines(self):
+        self.refused(19, 1, lists.check_list, b"\n")
+        self.refused(19, 1, lists.check_list, b"\na")
+        self.refused(19, 2, lists.check_list, b"a\n\n")
+        self.refused(19, 2, lists.check_list, b"a\n\n\n")
+        self.refused(19, 3, lists.check_list, b"a\nb\n\nc")
+
+    def test_long_lines(self):
+        self.assertEqual(lists.check_list(b"a" * 255), 1)
+        self.assertEqual(lists.check_list(b"a" * 255 + b"\n"), 1)
+        self.refused(19, 1, lists.check_list, b"a" * 256)
+        self.refused(19, 1, lists.check_list, b"a" * 256 + b"\n")
+        self.refused(19, 2, lists.check_list, b"b\n" + b"a" * 256 + b"\n\n")
+        self.refused(19, 1, lists.check_list, b"\0" * 256)
+        # a carriage return is a byte of the name
+        self.assertEqual(lists.check_list(b"a" * 254 + b"\r\n"), 1)
+        self.refused(19, 1, lists.check_list, b"a" * 255 + b"\r\n")
+
+    def test_250_lines(self):
+        self.assertEqual(lists.check_list(b"a\n" * 250), 250)
+        self.assertEqual(lists.check_list(b"a\n" * 249 + b"a"), 250)
+        self.refused(20, 250, lists.check_list, b"a\n" * 250 + b"a")
+        self.refused(20, 250, lists.check_list, b"a\n" * 251)
+        self.refused(20, 250, lists.check_list, b"a\n" * 1000)
+        # 20 first, wherever a bad line stands: 251 lines with an empty one, and 250 lines alike
+        self.refused(20, 250, lists.check_list, b"\n" + b"a\n" * 250)
+        self.refused(20, 250, lists.check_list, b"a\n" * 250 + b"\n")
+        self.refused(19, 1, lists.check_list, b"\n" + b"a\n" * 249)
+        self.refused(19, 250, lists.check_list, b"a\n" * 249 + b"\n")
+        self.refused(20, 250, lists.check_list, b"a" * 256 + b"\n" + b"a\n" * 250)
+
+    def test_pieces(self):
+        self.assertEqual(lists.pieces_of(b"abcdefg", [2, 0, 1]), [b"ab", b"", b"c", b"de", b"", b"f", b"g"])
+        self.assertEqual(lists.judge(b"a\n\n", [1]), (19, 2, 3))
+        self.assertEqual(lists.judge(b"", [1]), (0, 0, 0))
+        self.assertEqual(lists.judge(b"a\nb", [2, 5]), (0, 0, 2))
+        # line 251 begins with byte 501, whichever it is
+        for rest in (b"b", b"\n", b"bbb", b"\n\n\n"):
+            self.assertEqual(lists.judge(b"a\n" * 250 + rest, [1]), (20, 250, 501))
+            self.assertEqual(lists.judge(b"a\n" * 250 + rest, [500, 1]), (20, 250, 2))
+        self.assertEqual(lists.judge(b"a\n" * 250, [1]), (0, 0, 500))
+
+    def test_line_ends(self):
+        self.assertEqual([lists.line_end(b"ab\n\nc", at) for at in range(8)], [2, 2, 2, 3, 5, 5, 6, 7])
+
+    def sheet(self, text):
+        return nights.sheet(text, lambda name: nights.outcome_of(self.FILES.get(name)))
+
+    def test_sheets(self):
+        self.assertEqual(self.sheet(b""), "0 0 0 0 0 0 0 0 0 0 0\n")
+        self.assertEqual(self.sheet(b"\n"), "refused 19 1\n")
+        self.assertEqual(self.sheet(b"worked\n\n"), "refused 19 2\n")
+        self.assertEqual(self.sheet(b"worked\n" * 251), "refused 20 250\n")
+        self.assertEqual(self.sheet(b"worked"), "5 1 1 80 0\n1 0 0 0 0 0 5 1 1 80 0\n")
+        self.assertEqual(
+            self.sheet(b"worked\nnone\nseven\nnine\neleven\ndown\n a b\r\ntwo\nworked\nworked\r\n"),
+            "5 1 1 80 0\nunopened\nrefused 7 1\nrefused 9 0\nrefused 11 0\n1 1 1 0 1\n"
+            "1 0 0 0 0\n6 2 1 80 10\n5 1 1 80 0\nunopened\n"
+            "5 2 1 0 1 1 18 5 4 240 11\n")
+
+    def test_a_name_with_a_0_byte_is_not_looked_for(self):
+        def found(name):
+            self.assertNotIn(0, name)
+            return nights.outcome_of(self.FILES[b"worked"])
+        self.assertEqual(nights.sheet(b"a\0\n\0\na", found),
+                         "unopened\nunopened\n5 1 1 80 0\n1 2 0 0 0 0 5 1 1 80 0\n")
+
+    def test_a_refused_list_opens_nothing(self):
+        for text in (b"a\n\n", b"a\n" * 251):
+            nights.sheet(text, self.fail)
+
+    def test_the_largest_sums(self):
+        up, down = (16384, 16384, 1, 16384 * 65535, 0), (16384, 16384, 1, 0, 16384 * 65535)
+        self.assertEqual(files.count(files.file_of([], [TOP] * MOST_SAMPLES)), up)
+        self.assertEqual(files.count(files.file_of([0], [0] * MOST_SAMPLES)), down)
+        self.assertEqual(nights.totals_of([up] * 250),
+                         (250, 0, 0, 0, 0, 0, 4096000, 4096000, 250, 268431360000, 0))
+        self.assertEqual(nights.totals_of([down] * 250)[-2:], (0, 268431360000))
+
+    def test_totals(self):
+        nothing = (0,) * 11
+        self.assertEqual(nights.totals_of([]), nothing)
+        self.assertEqual(nights.totals_of([("unopened",)]), (0, 1) + (0,) * 9)
+        for place, number in enumerate((7, 8, 9, 11), 2):
+            expected = [0] * 11
+            expected[place] = 2
+            self.assertEqual(nights.totals_of([("refused", number, 5)] * 2), tuple(expected))
+        self.assertEqual(nights.totals_of([(1, 2, 3, 4, 5), (10, 20, 30, 40, 50)]),
+                         (2, 0, 0, 0, 0, 0, 11, 22, 33, 44, 55))
+        self.assertEqual(nights.add([2 ** 64 - 1] * 11, [("unopened",), (1, 2, 3, 4, 5)]),
+                         (0, 0, *[2 ** 64 - 1] * 4, 0, 1, 2, 3, 4))
+
+    def test_lines_lent(self):
+        lent = [0] * 128
+        self.assertEqual(lines.outcome_line(("unopened",), lent), 9)
+        self.assertEqual(bytes(lent[:10]), b"unopened\n\0")
+        self.assertEqual(lines.refused_line((19, 2), lent), 13)
+        self.assertEqual(bytes(lent[:14]), b"refused 19 2\n\0")
+        self.assertEqual(lines.totals_line([2 ** 64 - 1] * 11, [0] * 512), 231)
+        self.refused(10, 128, lines.outcome_line, ("unopened",), [0] * 129)
+        self.refused(10, 128, lines.refused_line, (19, 2), [0] * 127)
+        self.refused(10, 512, lines.totals_line, [0] * 11, [0] * 511)
+
+    def test_lines_that_are_added(self):
+        lent, totals, worked = [0] * 128, [1] * 11, self.FILES[b"worked"]
+        self.assertEqual(nights.night_line(worked, totals, lent), 11)
+        self.assertEqual(bytes(lent[:12]), b"5 1 1 80 0\n\0")
+        self.assertEqual(totals, [2, 1, 1, 1, 1, 1, 6, 2, 2, 81, 1])
+        self.assertEqual(nights.night_unopened(totals, lent), 9)
+        self.assertEqual(totals, [2, 2, 1, 1, 1, 1, 6, 2, 2, 81, 1])
+        self.refused(10, 128, nights.night_line, worked, totals, [0] * 127)
+        self.refused(10, 128, nights.night_unopened, totals, [])
+        self.assertEqual(totals, [2, 2, 1, 1, 1, 1, 6, 2, 2, 81, 1])
 
 
 class Papers(Case):
@@ -329,6 +473,27 @@ class Vectors(Case):
         self.assertEqual(line(call("table_to_form", [0] * TABLE_BYTES, 41)),
                          "table_to_form 0 0 : #%d" % checksum([43981] * 41))
 
+    def test_night_record(self):
+        self.assertEqual(record(call("judge", [(b"ab", 3)], [1, 2])).hex(" "),
+                         "02 00 01 00 00 00 02 00 00 00 61 62 06 00 00 00 02 00 00 00 01 00 02 00")
+        self.assertEqual(record(call("refused_line", (19, 2), 128)).hex(" "),
+                         "05 00 00 00 00 00 00 00 00 00 80 00 00 00 "
+                         "13 00 00 00 00 00 00 00 02 00 00 00 00 00 00 00")
+        numbers = record(call("add", [0] * 11, [("unopened",), ("refused", 9, 4), (1, 2, 3, 4, 5)]))[10 + 88:]
+        self.assertEqual([int.from_bytes(numbers[i:i + 8], "little") for i in range(0, len(numbers), 8)],
+                         [3, 0, 0, 0, 0, 0, 0, 2, 9, 4, 0, 0, 0, 1, 1, 2, 3, 4, 5])
+
+    def test_night_line(self):
+        self.assertEqual(line(call("check_list", [(b"a\n", 250)])), "check_list 0 250")
+        self.assertEqual(line(call("check_list", [(b"a\n", 2), (b"\n", 1)])), "check_list 19 3")
+        self.assertEqual(line(call("judge", [(b"a\n", 251)], [1])), "judge 20 250 501")
+        self.assertEqual(line(call("judge", [(b"a", 3)], [2])), "judge 0 0 2")
+        self.assertEqual(line(call("line_end", [(b"ab", 2)], 1)), "line_end 0 4")
+        self.assertEqual(line(call("refused_line", (19, 2), 3)), "refused_line 10 128 : 171 171 171")
+        self.assertEqual(line(call("totals_line", [1] * 11, 512)), "totals_line 0 22 : #%d 1%s" % (
+            checksum([*b"1 1 1 1 1 1 1 1 1 1 1\n", *[171] * 490]), " 1" * 10))
+        self.assertEqual(line(call("add", range(11), [("unopened",)])), "add 0 0 2 2 3 4 5 6 7 8 9 10")
+
     def test_checksum(self):
         self.assertEqual(checksum([0, -7]), 31 + 2 ** 32 - 7 + 1)
 
@@ -339,14 +504,17 @@ class Vectors(Case):
         "run_recipe": {0, 1, 2, 3, 4, 5, 9, 10}, "compile": {0, 1, 2, 3, 4, 5, 6},
         "write": {0, 7, 9, 10}, "read": {0, 6, 7, 9, 10, 11}, "count": {0, 7, 9, 11},
         "line": {0, 10},
+        "check_list": {0, 19, 20}, "judge": {0, 19, 20}, "line_end": {0}, "outcome_line": {0, 10},
+        "refused_line": {0, 10}, "totals_line": {0, 10}, "add": {0},
     }
 
     def test_the_stored_lines_have_every_answer_of_every_call(self):
         found = {}
-        for stored in (CASES / "stdout").read_text().splitlines():
-            name, number = stored.split()[:2]
-            found.setdefault(name, set()).add(int(number))
-        self.assertEqual(found, {name: self.ANSWERS[name] for name in found})
+        for program in GROUPS:
+            for stored in (CRATES / program / "stdout").read_text().splitlines():
+                name, number = stored.split()[:2]
+                found.setdefault(name, set()).add(int(number))
+        self.assertEqual(found, self.ANSWERS)
 
 
 if __name__ == "__main__":

@@ -4,21 +4,23 @@
     python3 second/wrong_versions.py --run          makes the calls, on the code and on each edit
     python3 second/wrong_versions.py --run NAME..   those of some edits, as scans/always-a-root
 
-An edit names in its first lines, after "# ", a call, its right line (as crates/cases/stdout has it)
-and the line that the edited code gives. More calls may follow.
+An edit names in its first lines, after "# ", a call, its right line (as crates/cases/stdout or
+crates/nightcases/stdout has it) and the line that the edited code gives. More calls may follow.
 
     call: clean 24 40 48; 10 10 90 10 10; lent 5
     right: clean 0 5 : 10 10 10 10 10
     gives: clean 0 5 : 10 10 90 10 10
 
 The arguments stand in the order of wire.py, and a lent slice is its length. In a list of numbers
-255*64 is 255 sixty-four times; a recipe is its steps: signal, rank 2 56, larger. An edit of a
+255*64 is 255 sixty-four times, and (97 10)*250 is 97 10 two hundred and fifty times; a recipe is its
+steps: signal, rank 2 56, larger; an outcome is its line: 5 1 1 80 0, unopened, refused 9 0. A sheet
+of the program `night` has / between its lines, and 250 unopened is so many lines in turn. An edit of a
 definition says "asks" in place of "gives": the line that the definition would ask for.
 
-The calls go through the C interface, so that its own edits are shown in the same way. A small
-program of Rattle makes them, and `rt try` runs it with no proof, interpreted and compiled. An
-edited definition changes no code, so only its right line is run. --run takes some seconds an
-edit; the gate has --check.
+The calls of `cases` go through the C interface, so that its own edits are shown in the same way: a
+small program of Rattle makes them. Those of `nightcases` and `night` are made by these. `rt try` runs
+them with no proof, interpreted where it can, and compiled. An edited definition changes no code, so only its right line is
+run. --run takes some seconds an edit; the gate has --check.
 """
 
 import concurrent.futures
@@ -31,8 +33,8 @@ import sys
 import tempfile
 from collections import namedtuple
 
-from wire import (BYTES, FILLERS, KINDS, LENT_BYTES, LENT_RESIDUES, LENT_WORDS, NUMBER, SCAN, TERMS,
-                  arguments_of, call, line)
+from wire import (BYTES, END, FILLERS, KINDS, LENT_BYTES, LENT_RESIDUES, LENT_TOTALS, LENT_WORDS, NUMBER,
+                  OUTCOME, OUTCOMES, SCAN, TERMS, TEXT, arguments_of, call, joined, line, record)
 
 ROOT = pathlib.Path(__file__).resolve().parent.parent
 PROMISES = ROOT / "docs" / "PROMISES.md"
@@ -47,12 +49,13 @@ Edit = namedtuple("Edit", "name crate of_code changes shown")
 
 SAYS = re.compile(r"# (call|right|gives|asks): (.*)")
 STEPS = "signal erode dilate open close rank median larger smaller".split()
+GROUP = re.compile(r"\(([^()]*)\)\*(\d+)")
 
 
 def numbers(text):
-    """Whole numbers with spaces between them; N*K is K times N."""
+    """Whole numbers with spaces between them; N*K is K times N, and (N M ..)*K is K times the group."""
     found = []
-    for word in text.split():
+    for word in GROUP.sub(lambda group: (group[1] + " ") * int(group[2]), text).split():
         number, _, times = word.partition("*")
         found += [int(number)] * int(times or 1)
     return found
@@ -68,12 +71,23 @@ def recipe(text):
     return found
 
 
+def outcome(text):
+    """The fields of a file's line."""
+    return tuple(int(word) if word.isdigit() else word for word in text.split())
+
+
 def argument(kind, text):
     text = text.strip()
     if kind in FILLERS:
         return int(text.removeprefix("lent "))
     if kind == NUMBER:
         return int(text)
+    if kind == TEXT:
+        return [(numbers(text), 1)]
+    if kind == OUTCOME:
+        return outcome(text)
+    if kind == OUTCOMES:
+        return [outcome(part) for part in text.split(",") if part.strip()]
     return recipe(text) if text[:1].isalpha() else numbers(text)
 
 
@@ -153,6 +167,11 @@ def function(place, a_call):
             made.append("let mut lent%d = [%d%s; %d];" % (i, FILLERS[kind], TYPES[kind], given))
             passed.append("&mut lent%d" % i)
             printed.append("output::%s(&lent%d);" % (PRINTS[kind], i))
+        elif kind == LENT_TOTALS:
+            made.append("let mut totals = [%s];" % ", ".join("%du64" % number for number in given))
+            passed.append("&mut totals")
+            printed.append('output::text(b" :");')
+            printed += ["output::word(totals[%d]);" % k for k in range(len(given))]
         else:
             passed.append(str(given) if kind == NUMBER else slice_of(kind, given))
     if a_call.name == "count":
@@ -197,21 +216,63 @@ def apply(changes, crate):
         (crate / file).write_text(text.replace(old, new))
 
 
-def run(calls, lines, edit=None):
-    """What `rt try` says where a program of the calls, on the edited code, prints other lines."""
+def as_shown(calls, crates):
+    """Writes the crate that makes calls by the C interface, and answers its line of crates.txt."""
+    (crates / "shown" / "src").mkdir(parents=True)
+    (crates / "shown" / "src" / "main.rt").write_text(program(calls))
+    return "shown: exports wire io libc\n"
+
+
+def as_nightcases(calls, crates):
+    """Gives `nightcases` the calls' records."""
+    (crates / "nightcases" / "stdin").write_bytes(b"".join(map(record, calls)) + END)
+    return ""
+
+
+def as_night(calls, crates):
+    """Gives `night` the list that its one call has."""
+    (a_call,) = calls
+    (crates / "night" / "stdin").write_bytes(joined(*a_call.arguments))
+    return ""
+
+
+# By what the calls of each program are made.
+MAKERS = {"cases": ("shown", as_shown), "C": ("shown", as_shown), "nightcases": ("nightcases", as_nightcases),
+          "night": ("night", as_night)}
+
+
+def printed(crate, text):
+    """What the crate prints of a call, from the call's line."""
+    if crate != "night":
+        return text + "\n"
+    found = re.findall(r"(?:(\d+) (?=unopened))?([^/]+)(?: / |$)", text.removeprefix("sheet "))
+    return "".join((words + "\n") * int(times or 1) for times, words in found)
+
+
+def run_by(crate, prepare, calls, lines, edit):
+    """What `rt try` says where the crate, on the edited code, prints other lines of the calls."""
     with tempfile.TemporaryDirectory() as folder:
-        crates, shown = pathlib.Path(folder, "crates"), pathlib.Path(folder, "crates", "shown")
+        crates = pathlib.Path(folder, "crates")
         for source in ROOT.glob("crates/*/src"):
             shutil.copytree(source, crates / source.parent.name / "src")
         if edit:
             apply(edit.changes, crates / edit.crate)
-        (shown / "src").mkdir(parents=True)
-        (shown / "src" / "main.rt").write_text(program(calls))
-        (shown / "stdout").write_text("".join(text + "\n" for text in lines))
-        listed = (ROOT / "crates.txt").read_text() + "shown: exports wire io libc\n"
+        listed = (ROOT / "crates.txt").read_text() + prepare(calls, crates)
         pathlib.Path(folder, "crates.txt").write_text(listed)
-        tried = subprocess.run(["rt", "try", "shown"], cwd=folder, capture_output=True, text=True)
-        return tried.stdout + tried.stderr if tried.returncode else None
+        (crates / crate / "stdout").write_text("".join(printed(crate, text) for text in lines))
+        tried = subprocess.run(["rt", "try", crate], cwd=folder, capture_output=True, text=True)
+        return tried.stdout + tried.stderr if tried.returncode else ""
+
+
+def run(calls, lines, edit=None):
+    """What is amiss where the calls, on the edited code, print other lines; nothing where they don't."""
+    amiss = ""
+    for kind, maker in MAKERS.items():
+        made = [(a_call, text) for a_call, text in zip(calls, lines) if KINDS[a_call.name].program == kind]
+        # A list is all that `night` is given, so each of its calls is a run of its own.
+        for together in [[one] for one in made] if kind == "night" else [made] if made else []:
+            amiss += run_by(*maker, *zip(*together), edit)
+    return amiss
 
 
 def run_edit(edit):

@@ -1,4 +1,5 @@
-"""The numbers of the scope document, each named once; what follows from others stands as that."""
+"""The numbers of the scope document and of request 1, each named once; what follows from others stands as
+that."""
 
 # An offset is -REACH to REACH; a set of offsets, or a pattern, is a number below PATTERNS.
 REACH = 4
@@ -39,8 +40,14 @@ def file_bytes(samples, terms):
 
 LONGEST_FILE = file_bytes(MOST_SAMPLES, MOST_TERMS)
 
-# What is lent for the report's line.
+# What is lent for a file's line, and for the night sheet's last line.
 LINE_BYTES = 128
+TOTALS_BYTES = 512
 
-# What a term, or the number of terms, can be made to say.
+# A list of names: its lines, and the bytes of a name.
+MOST_NAMES = 250
+LONGEST_NAME = 255
+
+# What a term, or the number of terms, can be made to say; what a total can hold.
 LARGEST_WORD = 2 ** 16 - 1
+LARGEST_TOTAL = 2 ** 64 - 1

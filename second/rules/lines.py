@@ -1,25 +1,57 @@
-"""The line that the report program prints."""
+"""The lines that the programs print."""
 
 from .files import count
-from .limits import LINE_BYTES
+from .limits import LINE_BYTES, TOTALS_BYTES
 from .refusals import Refused, fill
 from .scans import check_output
 
 
-def line_of(file):
-    """"samples, changed samples, spikes, total of positive residues, total of negative residues
-    with the sign dropped"; "A refused file prints `refused`, number, place"; "Single spaces stand
-    between fields and one line feed at the end"."""
-    try:
-        fields = count(file)
-    except Refused as no:
-        fields = ("refused", no.number, no.place)
+def text_of(fields):
+    """"Single spaces stand between fields and one line feed at the end"."""
     return " ".join(map(str, fields)) + "\n"
 
 
+def refused_fields(no):
+    """Prints "`refused`, number, place"."""
+    return ("refused", no.number, no.place)
+
+
+def fields_of(file):
+    """"samples, changed samples, spikes, total of positive residues, total of negative residues
+    with the sign dropped"; "A refused file prints `refused`, number, place"."""
+    try:
+        return count(file)
+    except Refused as no:
+        return refused_fields(no)
+
+
+def line_of(file):
+    """The line that the report program prints."""
+    return text_of(fields_of(file))
+
+
+# ---- the calls: order 10 alone, since what is refused has a line too; each returns the line's length
+
+def written(fields, out, needed):
+    check_output(out, needed)
+    line = list(text_of(fields).encode("ascii"))
+    fill(out, line)
+    return len(line)
+
+
 def line(file, out):
-    """Order 10 alone: a refused file has a line too. Returns the line's length."""
-    check_output(out, LINE_BYTES)
-    written = list(line_of(file).encode("ascii"))
-    fill(out, written)
-    return len(written)
+    return written(fields_of(file), out, LINE_BYTES)
+
+
+def outcome_line(outcome, out):
+    """An outcome is its line's fields (see nights.py)."""
+    return written(outcome, out, LINE_BYTES)
+
+
+def refused_line(refusal, out):
+    """A refused list's line."""
+    return written(("refused", *refusal), out, LINE_BYTES)
+
+
+def totals_line(totals, out):
+    return written(totals, out, TOTALS_BYTES)

@@ -79,3 +79,31 @@ pub fn words(room: &mut [u16]) -> usize
     }
     n
 }
+
+// Puts the next run at the start of `room`, a unit over and over, and answers how many bytes it has.
+fn run(room: &mut [u8]) -> usize
+    ensures { λ r. ⌜ Counts r (now (room .exit)) ⌝ }
+{
+    let unit = bytes(room);
+    let n = bytes_to_lend(room);
+    let mut i: usize = unit;
+    while i < n {
+        room[i] = room[i - unit];
+        i += 1;
+    }
+    n
+}
+
+// Puts the next text, run after run, at the start of `room`, and answers how many bytes it has.
+pub fn text(room: &mut [u8]) -> usize
+    ensures { λ r. ⌜ Counts r (now (room .exit)) ⌝ }
+{
+    let mut left = four_bytes();
+    let mut n: usize = 0;
+    while left > 0 {
+        let more = run(&mut room[n..]);
+        n += more;
+        left -= 1;
+    }
+    n
+}

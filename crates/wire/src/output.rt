@@ -10,6 +10,11 @@ const TWO_TO_48: u64 = 1 << 48;
 
 const SIGNED_TWO_TO_32: i64 = 1 << 32;
 
+// Bytes as they are.
+pub fn text(bytes: &[u8]) {
+    io::write_all(STDOUT_FILENO, bytes);
+}
+
 // A space and a number.
 pub fn word(n: u64) {
     io::write_all(STDOUT_FILENO, b" ");
