@@ -25,7 +25,7 @@
 #include <stddef.h>
 #include <stdint.h>
 
-#define SF_VERSION "0.1.0"
+#define SF_VERSION "0.2.0"
 
 #define SF_REACH 4                       /* an offset is -SF_REACH to SF_REACH */
 #define SF_WIDTH (2 * SF_REACH + 1)      /* the number of offsets */
@@ -42,6 +42,11 @@
 #define SF_TRAILER_BYTES 12              /* the bytes of a scan file after its samples and its terms */
 #define SF_COUNTS 5                      /* how many counts the report has */
 #define SF_LINE_BYTES 128                /* the bytes that are lent for the report's line */
+#define SF_MOST_NAMES 250                /* the most names that a list has */
+#define SF_LONGEST_NAME 255              /* the most bytes that a name has */
+#define SF_LONGEST_LIST (SF_MOST_NAMES * (SF_LONGEST_NAME + 1))
+#define SF_TOTALS 11                     /* how many totals the night sheet has */
+#define SF_TOTALS_BYTES 512              /* the bytes that are lent for the night sheet's last line */
 
 /* The bytes of a scan file that holds so many samples and terms, and of the longest one. */
 #define SF_FILE_BYTES(samples, terms) (2 * (samples) + 2 * (terms) + SF_TRAILER_BYTES)
@@ -68,7 +73,10 @@ enum {
     SF_REFUSED_NOT_POSITIVE = 12,  /* a truth table is not positive; the least pattern with value 1 that
                                       one more offset turns to 0 */
     SF_REFUSED_TABLE_LENGTH = 13,  /* a truth table slice has not 64 bytes; its length */
-    SF_REFUSED_PRESET_NUMBER = 14  /* a preset number is over 19; the number, never cut */
+    SF_REFUSED_PRESET_NUMBER = 14, /* a preset number is over 19; the number, never cut */
+    SF_REFUSED_BAD_NAME = 19,      /* a line of a list of names is empty, or over 255 bytes; the first such
+                                      line, from 1 */
+    SF_REFUSED_NAME_COUNT = 20     /* a list of names has over 250 lines; 250 */
 };
 
 /* When a refusal is given, in words; "accepted" for 0, and "no refusal has this number" for any other. */
@@ -91,6 +99,8 @@ static inline const char *sf_sentence(uint8_t number) {
     case SF_REFUSED_NOT_POSITIVE: return "a truth table is not positive";
     case SF_REFUSED_TABLE_LENGTH: return "a truth table slice has not 64 bytes";
     case SF_REFUSED_PRESET_NUMBER: return "a preset number is over 19";
+    case SF_REFUSED_BAD_NAME: return "a line of a list of names is empty, or over 255 bytes";
+    case SF_REFUSED_NAME_COUNT: return "a list of names has over 250 lines";
     default: return "no refusal has this number";
     }
 }
@@ -169,6 +179,27 @@ static inline uint8_t sf_put_step(uint8_t *at, uint64_t code, uint64_t rank, uin
     at[3] = (uint8_t)(set >> 8);
     return 0;
 }
+
+/* ---- the night sheet's totals */
+
+/*
+ * Where each total stands among the SF_TOTALS numbers, which are in the order of the night sheet's last
+ * line. All are 0 before the first file. They are exact for every night that a list can ask for; whoever
+ * adds more files than that gets each of them modulo 2^64.
+ */
+enum {
+    SF_TOTAL_CLEANED = 0,     /* files cleaned */
+    SF_TOTAL_UNOPENED = 1,    /* files not opened */
+    SF_TOTAL_BAD_TERM = 2,    /* files refused under 7 */
+    SF_TOTAL_TERM_COUNT = 3,  /* files refused under 8 */
+    SF_TOTAL_SCAN_LENGTH = 4, /* files refused under 9 */
+    SF_TOTAL_LAYOUT = 5,      /* files refused under 11 */
+    SF_TOTAL_SAMPLES = 6,     /* of the files cleaned: samples */
+    SF_TOTAL_CHANGED = 7,     /* changed samples */
+    SF_TOTAL_SPIKES = 8,      /* spikes */
+    SF_TOTAL_UP = 9,          /* total of positive residues */
+    SF_TOTAL_DOWN = 10        /* total of negative residues, with the sign dropped */
+};
 
 /* ---- the calls */
 
@@ -275,6 +306,37 @@ uint8_t sf_count(const uint8_t *file, size_t n, uint64_t counts[SF_COUNTS], size
  * Refuses 10.
  */
 uint8_t sf_line(const uint8_t *file, size_t n, uint8_t *out, size_t lent, size_t *value);
+
+/*
+ * Asks whether a text is a list of file names, one to a line; *value is the number of names. A line feed
+ * ends a name, and bytes behind the last one are a further name; a text of no bytes is a list of no
+ * names. Writes no slice.
+ * Refuses 20, 19.
+ */
+uint8_t sf_night_list(const uint8_t *text, size_t n, size_t *value);
+
+/*
+ * Adds a file of the list to the night's totals and writes its line, which is that of sf_line, to the
+ * start of out, where lent is SF_LINE_BYTES; *value is the line's length. No file is refused: a refused
+ * one has its line and its place in the totals. Not in place: the file, the totals and out may not overlap.
+ * Refuses 10, and then adds nothing.
+ */
+uint8_t sf_night_line(const uint8_t *file, size_t n, uint64_t totals[SF_TOTALS], uint8_t *out, size_t lent,
+                      size_t *value);
+
+/*
+ * The same for a file that could not be opened or read, whose line is "unopened".
+ * Refuses 10, and then adds nothing.
+ */
+uint8_t sf_night_unopened(uint64_t totals[SF_TOTALS], uint8_t *out, size_t lent, size_t *value);
+
+/*
+ * Writes the night sheet's last line, the totals in their order, with the line feed at its end, to the
+ * start of out, where lent is SF_TOTALS_BYTES; *value is the line's length. Not in place: out may not
+ * overlap the totals.
+ * Refuses 10.
+ */
+uint8_t sf_night_totals(const uint64_t totals[SF_TOTALS], uint8_t *out, size_t lent, size_t *value);
 
 #ifdef __cplusplus
 }

@@ -36,6 +36,7 @@ static void must(const char *what, int holds) {
 /* What follows from other numbers is what the scope document says in figures. */
 _Static_assert(SF_PATTERNS == 512 && SF_TABLE_BYTES == 64, "patterns and tables");
 _Static_assert(SF_LONGEST_RECIPE == 128 && SF_LONGEST_FILE == 33032, "recipes and files");
+_Static_assert(SF_LONGEST_LIST == 64000 && SF_TOTAL_DOWN + 1 == SF_TOTALS, "lists and totals");
 
 /* The set {-1, 0, 1}. */
 #define THREE (SF_OFFSET(-1) | SF_OFFSET(0) | SF_OFFSET(1))
@@ -111,10 +112,13 @@ static void beside(void) {
     expect("compile, two left", sf_compile(two, sizeof two, terms, SF_MOST_TERMS, &value), 4, 2);
     must("two left", strcmp(sf_signals_sentence(two, sizeof two, value), "more than one signal is left at the end") == 0);
 
-    for (int number = 0; number < SF_REFUSED_PRESET_NUMBER; number++)
-        for (int other = number + 1; other <= SF_REFUSED_PRESET_NUMBER + 1; other++)
+    /* Each number that is given has a sentence of its own; 15 to 18, and those over 20, are not given. */
+    for (int number = 0; number < 256; number++) {
+        int given = number <= SF_REFUSED_PRESET_NUMBER || number == SF_REFUSED_BAD_NAME || number == SF_REFUSED_NAME_COUNT;
+        must("a sentence", (strcmp(sf_sentence((uint8_t)number), "no refusal has this number") != 0) == given);
+        for (int other = 0; other < number && given; other++)
             must("sentences differ", strcmp(sf_sentence((uint8_t)number), sf_sentence((uint8_t)other)) != 0);
-    must("no refusal", strcmp(sf_sentence(SF_REFUSED_PRESET_NUMBER + 1), sf_sentence(255)) == 0);
+    }
 }
 
 static void scans(void) {
@@ -216,6 +220,96 @@ static void files(void) {
     same("line of a refused file, behind", line + 13, before + 13, sizeof line - 13);
 }
 
+/* A list of so many names of so many bytes, and behind it its end. */
+static size_t listed(uint8_t *text, size_t names, size_t bytes, const char *end) {
+    size_t n = 0;
+    for (size_t i = 0; i < names; i++) {
+        memset(text + n, 'a', bytes);
+        n += bytes;
+        text[n++] = '\n';
+    }
+    memcpy(text + n, end, strlen(end));
+    return n + strlen(end);
+}
+
+static void lists(void) {
+    static uint8_t text[SF_LONGEST_LIST + SF_LONGEST_NAME + 2];
+    const uint8_t zero[] = {'a', 0, 'b', '\n', 0, 255, '\r', '\n'};
+    expect("list, no bytes", sf_night_list(text, 0, &value), 0, 0);
+    expect("list, a line feed", sf_night_list((const uint8_t *)"\n", 1, &value), 19, 1);
+    expect("list, one name", sf_night_list((const uint8_t *)"a", 1, &value), 0, 1);
+    expect("list, one name and its end", sf_night_list((const uint8_t *)"a\n", 2, &value), 0, 1);
+    expect("list, an empty last line", sf_night_list((const uint8_t *)"a\n\n", 3, &value), 19, 2);
+    expect("list, an empty line between", sf_night_list((const uint8_t *)"a\n\nb", 4, &value), 19, 2);
+    expect("list, any byte", sf_night_list(zero, sizeof zero, &value), 0, 2);
+    expect("list, the longest", sf_night_list(text, listed(text, 250, 255, ""), &value), 0, 250);
+    expect("list, without the last end", sf_night_list(text, listed(text, 250, 255, "") - 1, &value), 0, 250);
+    expect("list, 256 bytes", sf_night_list(text, listed(text, 1, 256, ""), &value), 19, 1);
+    expect("list, 256 bytes behind another", sf_night_list(text, listed(text, 0, 0, "a\n") + listed(text + 2, 1, 256, "b"), &value), 19, 2);
+    expect("list, a byte of line 251", sf_night_list(text, listed(text, 250, 1, "a"), &value), 20, 250);
+    expect("list, an empty line 251", sf_night_list(text, listed(text, 250, 1, "\n"), &value), 20, 250);
+    expect("list, 20 before 19", sf_night_list(text, listed(text, 251, 0, ""), &value), 20, 250);
+    expect("list, 250 empty lines", sf_night_list(text, listed(text, 250, 0, ""), &value), 19, 1);
+}
+
+static void night(void) {
+    const uint8_t bad_term[] = {24, 0, 16, 0, 16, 0, 0, 0, 16, 0, 0, 0, 2, 0, 0x53, 0x46};
+    const uint8_t no_samples[] = {12, 0, 0, 0, 12, 0, 0, 0, 0, 0, 0x53, 0x46};
+    uint64_t totals[SF_TOTALS + 2] = {99}, *all = totals + 1; /* a number more on either side, which no call may touch */
+    uint8_t room[SF_TOTALS_BYTES + 2], before[sizeof room], *out = room + 1;
+    totals[SF_TOTALS + 1] = 99;
+    memset(room, 7, sizeof room);
+    memset(before, 7, sizeof before);
+
+    expect("night_line", sf_night_line(FILE_BYTES, 28, all, out, SF_LINE_BYTES, &value), 0, 11);
+    same("night_line", out, "5 1 1 80 0\n", 11);
+    same("night_line, behind", out + 11, before + 11, sizeof room - 12);
+    same("night_line, totals", totals, (uint64_t[]){99, 1, 0, 0, 0, 0, 0, 5, 1, 1, 80, 0, 99}, sizeof totals);
+    expect("night_unopened", sf_night_unopened(all, out, SF_LINE_BYTES, &value), 0, 9);
+    same("night_unopened", out, "unopened\n0\n", 11); /* what the line before left is behind it */
+    same("night_unopened, behind", out + 11, before + 11, sizeof room - 12);
+    same("night_unopened, totals", totals, (uint64_t[]){99, 1, 1, 0, 0, 0, 0, 5, 1, 1, 80, 0, 99}, sizeof totals);
+    expect("night_line, 27 bytes", sf_night_line(FILE_BYTES, 27, all, out, SF_LINE_BYTES, &value), 0, 13);
+    same("night_line, 27 bytes", out, "refused 11 0\n", 13);
+    expect("night_line, bad term", sf_night_line(bad_term, sizeof bad_term, all, out, SF_LINE_BYTES, &value), 0, 12);
+    same("night_line, bad term", out, "refused 7 1\n", 12);
+    expect("night_line, no samples", sf_night_line(no_samples, sizeof no_samples, all, out, SF_LINE_BYTES, &value), 0, 12);
+    same("night_line, no samples", out, "refused 9 0\n", 12);
+    expect("night_line, again", sf_night_line(FILE_BYTES, 28, all, out, SF_LINE_BYTES, &value), 0, 11);
+    const uint64_t sums[] = {99, 2, 1, 1, 0, 1, 1, 10, 2, 2, 160, 0, 99};
+    same("the totals so far", totals, sums, sizeof totals);
+
+    memset(room, 7, sizeof room);
+    for (size_t lent = 0; lent <= SF_TOTALS_BYTES; lent++) {
+        if (lent == SF_LINE_BYTES)
+            continue;
+        expect("night_line, lent otherwise", sf_night_line(FILE_BYTES, 28, all, out, lent, &value), 10, SF_LINE_BYTES);
+        expect("night_unopened, lent otherwise", sf_night_unopened(all, out, lent, &value), 10, SF_LINE_BYTES);
+    }
+    expect("night_totals, one less", sf_night_totals(all, out, SF_TOTALS_BYTES - 1, &value), 10, SF_TOTALS_BYTES);
+    expect("night_totals, one more", sf_night_totals(all, room, SF_TOTALS_BYTES + 1, &value), 10, SF_TOTALS_BYTES);
+    expect("night_totals, a line's room", sf_night_totals(all, out, SF_LINE_BYTES, &value), 10, SF_TOTALS_BYTES);
+    same("refused, out", room, before, sizeof room);
+    same("refused, totals", totals, sums, sizeof totals);
+
+    expect("night_totals", sf_night_totals(all, out, SF_TOTALS_BYTES, &value), 0, 25);
+    same("night_totals", out, "2 1 1 0 1 1 10 2 2 160 0\n", 25);
+    same("night_totals, before", room, before, 1);
+    same("night_totals, totals", totals, sums, sizeof totals);
+
+    /* Each total is a number of 64 bits, in its own place; beyond 2^64 it goes on from 0. */
+    const uint64_t places[SF_TOTALS] = {0, 1, 22, 333, 4444, UINT64_MAX, 6, 7, 8, 9, 10};
+    expect("night_totals, each in its place", sf_night_totals(places, out, SF_TOTALS_BYTES, &value), 0, 48);
+    same("night_totals, each in its place", out, "0 1 22 333 4444 18446744073709551615 6 7 8 9 10\n", 48);
+    uint64_t most[SF_TOTALS], after[SF_TOTALS];
+    memset(most, 255, sizeof most);
+    expect("night_totals, the largest", sf_night_totals(most, out, SF_TOTALS_BYTES, &value), 0, 231);
+    memcpy(after, most, sizeof most);
+    after[SF_TOTAL_UNOPENED] = 0;
+    expect("night_unopened, the largest", sf_night_unopened(most, out, SF_LINE_BYTES, &value), 0, 9);
+    same("night_unopened, the largest", most, after, sizeof most);
+}
+
 /* Every slice of length 0 may be a null pointer, in every call that takes one. */
 static void nulls(void) {
     uint16_t two[2] = {1, 2}, three[3];
@@ -265,6 +359,15 @@ static void nulls(void) {
     expect("line, null out", sf_line(FILE_BYTES, 28, NULL, 0, &value), 10, SF_LINE_BYTES);
     expect("line, null file", sf_line(NULL, 0, bytes, SF_LINE_BYTES, &value), 0, 13);
     same("line, null file", bytes, "refused 11 0\n", 13);
+    uint64_t totals[SF_TOTALS] = {0};
+    expect("night_list, null text", sf_night_list(NULL, 0, &value), 0, 0);
+    expect("night_line, null out", sf_night_line(FILE_BYTES, 28, totals, NULL, 0, &value), 10, SF_LINE_BYTES);
+    expect("night_unopened, null out", sf_night_unopened(totals, NULL, 0, &value), 10, SF_LINE_BYTES);
+    expect("night_totals, null out", sf_night_totals(totals, NULL, 0, &value), 10, SF_TOTALS_BYTES);
+    same("night, null out", totals, (uint64_t[SF_TOTALS]){0}, sizeof totals);
+    expect("night_line, null file", sf_night_line(NULL, 0, totals, bytes, SF_LINE_BYTES, &value), 0, 13);
+    same("night_line, null file", bytes, "refused 11 0\n", 13);
+    same("night_line, null file", totals, (uint64_t[SF_TOTALS]){0, 0, 0, 0, 0, 1}, sizeof totals);
 }
 
 int main(void) {
@@ -273,6 +376,8 @@ int main(void) {
     scans();
     tables();
     files();
+    lists();
+    night();
     nulls();
     printf("C: %d checks, %d faults\n", checks, faults);
     return faults != 0;

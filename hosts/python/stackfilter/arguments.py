@@ -42,6 +42,8 @@ RECIPE = Argument("recipe", "B", "a byte", 255, 'give the bytes that recipe("sig
 TABLE = Argument("table", "B", "a byte", 255, "give the bytes of a truth table", "form_to_table makes the bytes")
 FILE = Argument("file", "B", "a byte", 255, "give the bytes of a scan file, as pathlib.Path(name).read_bytes() does",
                 "pathlib.Path(name).read_bytes() gives the bytes of a scan file")
+NAMES = Argument("text", "B", "a byte", 255, "give the bytes of a list of names, one to a line",
+                 "pathlib.Path(name).read_bytes() gives the bytes of a list")
 
 
 def is_array(values: Any) -> bool:

@@ -10,10 +10,11 @@ import ctypes
 from typing import Any, List, NamedTuple, Optional, SupportsIndex, overload
 
 from . import library
-from .arguments import FILE, RECIPE, SCAN, TABLE, TERMS
+from .arguments import FILE, NAMES, RECIPE, SCAN, TABLE, TERMS
 from .errors import ArgumentError
-from .kinds import Array, Listed, Numbers, Residues, Row, Words
-from .limits import LINE_BYTES, MOST_SAMPLES, MOST_TERMS, PRESETS, TABLE_BYTES, WORD_BYTES, file_bytes
+from .kinds import Array, Listed, Numbers, Residues, Row, Totals, Words
+from .limits import (LINE_BYTES, MOST_SAMPLES, MOST_TERMS, PRESETS, TABLE_BYTES, TOTALS, TOTALS_BYTES, WORD_BYTES,
+                     file_bytes)
 from .memory import Answer, Memory, give, lend
 from .refusals import Refusal, of_recipe
 from .values import shown, whole
@@ -180,8 +181,37 @@ def line(file: Row) -> str:
     """The report's line about a scan file, with its line feed. A file that count refuses has a line too: `refused`, the
     number and the place.
     """
-    given, out = give(FILE, file), lend("B", LINE_BYTES)
-    return out.first_bytes(_call("sf_line", given, out)).decode("ascii")
+    return _written(LINE_BYTES, "sf_line", give(FILE, file))
+
+
+# ---- the night sheet, which stackfilter.night puts together
+
+def night_list(text: Row) -> int:
+    """The number of names in a list of file names, one to a line.
+
+    Refuses 20, 19.
+    """
+    return _call("sf_night_list", give(NAMES, text))
+
+
+def no_totals() -> Totals:
+    """The totals before the first file."""
+    return (ctypes.c_uint64 * TOTALS)()
+
+
+def night_line(file: Row, totals: Totals) -> str:
+    """The line of a file that was read, with its line feed. The totals take the file in."""
+    return _written(LINE_BYTES, "sf_night_line", give(FILE, file), totals)
+
+
+def night_unopened(totals: Totals) -> str:
+    """The line of a file that could not be opened or read, with its line feed. The totals take the file in."""
+    return _written(LINE_BYTES, "sf_night_unopened", totals)
+
+
+def night_totals(totals: Totals) -> str:
+    """The last line, with its line feed."""
+    return _written(TOTALS_BYTES, "sf_night_totals", totals)
 
 
 # ---- the library is called
@@ -189,6 +219,12 @@ def line(file: Row) -> str:
 def _lend_for(kind: str, samples: Memory) -> Answer:
     """As many elements as the scan has samples, if it is none too long."""
     return lend(kind, min(samples.length, MOST_SAMPLES))
+
+
+def _written(room: int, name: str, *given: Any) -> str:
+    """The line that a function of the library writes when it is lent so many bytes after what it is given."""
+    out = lend("B", room)
+    return out.first_bytes(_call(name, *given, out)).decode("ascii")
 
 
 def _call_with_recipe(name: str, recipe: Memory, *others: Any) -> int:

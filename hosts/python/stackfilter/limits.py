@@ -34,3 +34,12 @@ def file_bytes(samples: int, terms: int) -> int:
 
 
 LONGEST_FILE = file_bytes(MOST_SAMPLES, MOST_TERMS)
+
+# A list of names has at most MOST_NAMES lines, and a name 1 to LONGEST_NAME bytes; a line feed ends each.
+MOST_NAMES = 250
+LONGEST_NAME = 255
+LONGEST_LIST = MOST_NAMES * (LONGEST_NAME + 1)
+
+# The night sheet's last line has so many totals, in at most TOTALS_BYTES.
+TOTALS = 11
+TOTALS_BYTES = 512

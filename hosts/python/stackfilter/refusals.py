@@ -22,8 +22,10 @@ LAYOUT = 11
 NOT_POSITIVE = 12
 TABLE_LENGTH = 13
 PRESET_NUMBER = 14
+BAD_NAME = 19
+NAME_COUNT = 20
 
-# The place stands where the braces are.
+# The place stands where the braces are; where there are none, it is always the same.
 SENTENCES = {
     RECIPE_LENGTH: f"a recipe has {limits.STEP_BYTES} to {limits.LONGEST_RECIPE} bytes, a multiple of"
                    f" {limits.STEP_BYTES}, and this has {{}}",
@@ -40,6 +42,8 @@ SENTENCES = {
     NOT_POSITIVE: "the truth table is 1 on pattern {} and 0 with one offset more, so it is not positive",
     TABLE_LENGTH: f"a truth table has {limits.TABLE_BYTES} bytes, and this slice has {{}}",
     PRESET_NUMBER: f"presets have the numbers 0 to {limits.PRESETS - 1}, and {{}} was asked for",
+    BAD_NAME: f"a name has 1 to {limits.LONGEST_NAME} bytes, and line {{}} of the list is empty or longer",
+    NAME_COUNT: f"a list of names has at most {limits.MOST_NAMES} lines, and this has more",
 }
 
 

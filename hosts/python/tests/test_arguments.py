@@ -180,8 +180,10 @@ class OneFamily(unittest.TestCase):
 
     def calls(self, odd):
         one = (stackfilter.compile, stackfilter.check, stackfilter.table_to_form, stackfilter.form_to_table,
-               stackfilter.preset, stackfilter.read, stackfilter.count, stackfilter.line, recipe, offsets, Offsets)
+               stackfilter.preset, stackfilter.read, stackfilter.count, stackfilter.line, stackfilter.night, recipe, offsets,
+               Offsets)
         yield from ((call, odd) for call in one)
+        yield stackfilter.night, [odd]
         for call in (stackfilter.clean, stackfilter.residue, stackfilter.root, stackfilter.write):
             yield from ((call, MEDIAN, odd), (call, odd, SCAN))
         yield from ((stackfilter.run_recipe, recipe("signal"), odd), (stackfilter.run_recipe, odd, SCAN))

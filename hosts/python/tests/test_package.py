@@ -141,6 +141,20 @@ report 5 1 1 80 0
             with self.assertRaisesRegex(SystemExit, "/scan: refused 11 0: the scan file is badly laid out$"):
                 self.printed("scan_file.py", f"{folder}/scan")
 
+    def test_night_sheet(self):
+        with tempfile.TemporaryDirectory() as folder:
+            self.assertEqual(self.printed("night_sheet.py", folder), """\
+5 1 1 80 0
+5 1 1 80 0
+unopened
+refused 11 0
+2 1 0 0 0 1 10 2 2 160 0
+""")
+
+    def test_night_sheet_needs_a_folder(self):
+        with self.assertRaisesRegex(SystemExit, "^usage: night_sheet.py FOLDER$"):
+            self.printed("night_sheet.py")
+
     def test_scan_file_needs_a_name(self):
         with self.assertRaisesRegex(SystemExit, "^usage: scan_file.py FILE$"):
             self.printed("scan_file.py")

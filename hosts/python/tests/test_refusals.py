@@ -6,7 +6,7 @@ import re
 import unittest
 
 import stackfilter
-from stackfilter import Refusal, StackfilterError, limits, recipe, refusals
+from stackfilter import Refusal, StackfilterError, calls, limits, recipe, refusals
 
 ROOT = pathlib.Path(__file__).resolve().parents[3]
 
@@ -28,8 +28,8 @@ class Tables(unittest.TestCase):
         rows = re.findall(r"^\| (\d+) \| ([^|]+) \| ([^|]+) \|$", rules, re.MULTILINE)
         self.assertEqual([int(number) for number, _, _ in rows], sorted(refusals.SENTENCES))
         for number, _, place in rows:
-            # Where the place is always 0 the sentence has no room for it.
-            self.assertEqual("{}" in refusals.SENTENCES[int(number)], place != "0", f"refusal {number}")
+            # Where the place is always the same number the sentence has no room for it.
+            self.assertEqual("{}" in refusals.SENTENCES[int(number)], not place.isdigit(), f"refusal {number}")
 
     def test_the_limits_are_those_of_the_crate(self):
         source = (ROOT / "crates/limits/src/lib.rt").read_text(encoding="utf-8")
@@ -52,6 +52,12 @@ class Sentences(unittest.TestCase):
     def test_a_sentence_names_the_place(self):
         self.assertEqual(self.sentence(stackfilter.clean, [24, 16], [7]),
                          "refused 7 1: term 1 is over 511, not above its predecessor, or contains an earlier one")
+
+    def test_lists_of_names(self):
+        self.assertEqual(self.sentence(calls.night_list, b"day.scan\n\n"),
+                         "refused 19 2: a name has 1 to 255 bytes, and line 2 of the list is empty or longer")
+        self.assertEqual(self.sentence(calls.night_list, b"\n" * 251),
+                         "refused 20 250: a list of names has at most 250 lines, and this has more")
 
     def test_the_three_causes_of_refusal_4(self):
         needs = "and fewer are held: put a signal step before it"

@@ -12,6 +12,8 @@
 //! [`Refusal`] and changes no slice. The numbers after "Refuses" are those of the refusals, in the
 //! order in which they are tested. No call takes more than 128 KiB of the stack.
 //!
+//! [`night`] opens files by their names and gives one sheet for all of them: a line each, and the totals.
+//!
 //! ```
 //! use stackfilter::{clean, compile, offsets, recipe, Step};
 //!
@@ -24,11 +26,18 @@
 #![deny(missing_docs)]
 
 pub mod limits;
+mod night;
 pub mod raw;
 mod refusal;
 mod step;
 
-pub use limits::{LINE_BYTES, MOST_SAMPLES, MOST_TERMS, TABLE_BYTES, TRAILER_BYTES};
+pub use limits::{
+    LINE_BYTES, MOST_NAMES, MOST_SAMPLES, MOST_TERMS, TABLE_BYTES, TOTALS_BYTES, TRAILER_BYTES,
+};
+pub use night::{
+    night, night_line, night_line_into, night_list, night_totals, night_totals_into, night_unopened,
+    night_unopened_into, LineFeedInName, Totals,
+};
 pub use refusal::{Held, Refusal};
 pub use step::{offsets, recipe, Step};
 
@@ -403,9 +412,7 @@ pub fn count(file: &[u8]) -> Result<Counts, Refusal> {
 /// # Ok::<(), stackfilter::Refusal>(())
 /// ```
 pub fn line(file: &[u8]) -> String {
-    let mut out = [0; LINE_BYTES];
-    let length = line_into(file, &mut out).expect("every file has a line");
-    out[..length].iter().map(|byte| char::from(*byte)).collect()
+    text_by::<LINE_BYTES>(|out| line_into(file, out))
 }
 
 /// Writes the line that the report program prints for a scan file to the start of `out`, which has
@@ -434,6 +441,13 @@ fn answer_for(recipe: &[u8], call: impl FnOnce(&mut usize) -> u8) -> Result<usiz
 /// output is looked at, so no output is made for it.
 fn within(most: usize, length: usize) -> usize {
     length.min(most)
+}
+
+/// The line that a call writes when it is lent the bytes that it needs.
+fn text_by<const BYTES: usize>(call: impl FnOnce(&mut [u8]) -> Result<usize, Refusal>) -> String {
+    let mut out = [0; BYTES];
+    let length = call(&mut out).expect("a line has room in what is lent for it");
+    out[..length].iter().map(|byte| char::from(*byte)).collect()
 }
 
 /// The terms that a call writes when it is lent room for every form.

@@ -34,6 +34,16 @@ pub const LONGEST_FILE: usize = file_bytes(MOST_SAMPLES, MOST_TERMS);
 pub const COUNTS: usize = 5;
 /// The bytes that are lent for the report's line.
 pub const LINE_BYTES: usize = 128;
+/// The most names that a list has, one to a line.
+pub const MOST_NAMES: usize = 250;
+/// The bytes of the longest name.
+pub const LONGEST_NAME: usize = 255;
+/// The bytes of the longest list: a line feed ends each name.
+pub const LONGEST_LIST: usize = MOST_NAMES * (LONGEST_NAME + 1);
+/// How many totals the night sheet has.
+pub const TOTALS: usize = 11;
+/// The bytes that are lent for the night sheet's last line.
+pub const TOTALS_BYTES: usize = 512;
 
 /// How long a scan file is that holds so many samples and terms.
 pub const fn file_bytes(samples: usize, terms: usize) -> usize {

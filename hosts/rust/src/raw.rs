@@ -8,7 +8,7 @@
 //! Every pointer is aligned and good for its length; where that is 0 it may be null. Not in place: what a
 //! call writes overlaps nothing else that it is given.
 
-use crate::limits::COUNTS;
+use crate::limits::{COUNTS, TOTALS};
 
 extern "C" {
     /// Writes the form that a recipe computes to `terms`: [`compile`](crate::compile).
@@ -90,4 +90,20 @@ extern "C" {
     pub fn sf_count(file: *const u8, n: usize, counts: *mut [u64; COUNTS], value: *mut usize) -> u8;
     /// Writes the report's line for a scan file to `out`: [`line`](crate::line).
     pub fn sf_line(file: *const u8, n: usize, out: *mut u8, lent: usize, value: *mut usize) -> u8;
+    /// Checks a list of file names: [`night_list`](crate::night_list).
+    pub fn sf_night_list(text: *const u8, n: usize, value: *mut usize) -> u8;
+    /// Adds a file that was read to `totals` and writes its line to `out`: [`night_line`](crate::night_line).
+    pub fn sf_night_line(
+        file: *const u8,
+        n: usize,
+        totals: *mut [u64; TOTALS],
+        out: *mut u8,
+        lent: usize,
+        value: *mut usize,
+    ) -> u8;
+    /// Adds a file that was not opened to `totals` and writes its line to `out`:
+    /// [`night_unopened`](crate::night_unopened).
+    pub fn sf_night_unopened(totals: *mut [u64; TOTALS], out: *mut u8, lent: usize, value: *mut usize) -> u8;
+    /// Writes the night sheet's last line to `out`: [`night_totals`](crate::night_totals).
+    pub fn sf_night_totals(totals: *const [u64; TOTALS], out: *mut u8, lent: usize, value: *mut usize) -> u8;
 }

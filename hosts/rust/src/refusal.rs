@@ -1,7 +1,8 @@
 //! Why a call says no.
 
 use crate::limits::{
-    LAST_CODE, LONGEST_RECIPE, MOST_SAMPLES, MOST_TERMS, PATTERNS, PRESETS, REACH, STEP_BYTES, TABLE_BYTES,
+    LAST_CODE, LONGEST_NAME, LONGEST_RECIPE, MOST_NAMES, MOST_SAMPLES, MOST_TERMS, PATTERNS, PRESETS, REACH,
+    STEP_BYTES, TABLE_BYTES,
 };
 use std::error::Error;
 use std::fmt;
@@ -89,6 +90,13 @@ pub enum Refusal {
         /// The number.
         number: usize,
     },
+    /// 19: a line of a list of names is empty, or over 255 bytes.
+    BadName {
+        /// The first such line, from 1.
+        line: usize,
+    },
+    /// 20: a list of names has over 250 lines.
+    NameCount,
 }
 
 /// What is wrong with the signals that a recipe holds.
@@ -121,11 +129,13 @@ impl Refusal {
             12 => Refusal::NotPositive { pattern: place },
             13 => Refusal::TableLength { bytes: place },
             14 => Refusal::PresetNumber { number: place },
+            19 => Refusal::BadName { line: place },
+            20 => Refusal::NameCount,
             _ => panic!("the archive refused with the number {number}, which this package does not know"),
         }
     }
 
-    /// The refusal's number, 1 to 14.
+    /// The refusal's number, 1 to 14, 19 or 20.
     pub fn number(&self) -> u8 {
         match self {
             Refusal::RecipeLength { .. } => 1,
@@ -142,11 +152,14 @@ impl Refusal {
             Refusal::NotPositive { .. } => 12,
             Refusal::TableLength { .. } => 13,
             Refusal::PresetNumber { .. } => 14,
+            Refusal::BadName { .. } => 19,
+            Refusal::NameCount => 20,
         }
     }
 
-    /// The place at fault: a step, an index, a pattern, a number, or the length or size that was
-    /// given (1, 8, 9, 13) or is needed (6, 10). It is 0 for a scan file badly laid out.
+    /// The place at fault: a step, an index, a pattern, a number, a line, or the length or size that was
+    /// given (1, 8, 9, 13) or is needed (6, 10). It is 0 for a scan file badly laid out, and 250 for a list
+    /// of too many names.
     pub fn place(&self) -> usize {
         match *self {
             Refusal::StepCode { step }
@@ -161,6 +174,8 @@ impl Refusal {
             Refusal::Layout => 0,
             Refusal::NotPositive { pattern } => pattern,
             Refusal::PresetNumber { number } => number,
+            Refusal::BadName { line } => line,
+            Refusal::NameCount => MOST_NAMES,
         }
     }
 }
@@ -227,6 +242,15 @@ impl fmt::Display for Refusal {
             Refusal::PresetNumber { .. } => {
                 let last = PRESETS - 1;
                 write!(f, "presets have the numbers 0 to {last}, and {place} was asked for")
+            }
+            Refusal::BadName { .. } => {
+                write!(
+                    f,
+                    "a name has 1 to {LONGEST_NAME} bytes, and line {place} of the list is empty or longer"
+                )
+            }
+            Refusal::NameCount => {
+                write!(f, "a list of names has at most {MOST_NAMES} lines, and this has more")
             }
         }
     }

@@ -1,21 +1,29 @@
-//! The library against a second implementation, on random and damaged inputs, over all thirteen
-//! calls. Behind and before every slice that is lent stand guards that no call may touch.
+//! The library against a second implementation, on random and damaged inputs, over all seventeen
+//! calls. Behind and before every slice that is lent stand guards that no call may touch. Then whole nights,
+//! in folders of random files.
 //!
-//! `STACKFILTER_INPUTS` sets the number of inputs in all (260,000 unless set), and
-//! `STACKFILTER_SEED` the seed.
+//! `STACKFILTER_INPUTS` sets the number of inputs in all (260,000 unless set), of which there is a folder to
+//! every 340, and `STACKFILTER_SEED` the seed.
 
+mod folders;
 mod independent;
 mod inputs;
 
-use independent::limits::{file_bytes, LINE_BYTES, PRESETS, TABLE_BYTES};
-use independent::No;
+use folders::Folder;
+use independent::limits::{file_bytes, LINE_BYTES, LINE_FEED, PRESETS, TABLE_BYTES, TOTALS, TOTALS_BYTES};
+use independent::{sheets, No};
 use inputs::Random;
-use stackfilter::{raw, Refusal};
+use stackfilter::{raw, Refusal, Totals};
 use std::collections::BTreeMap;
 use std::env;
+use std::ffi::OsStr;
 use std::fmt::Debug;
+use std::os::unix::ffi::OsStrExt;
 
-const CALLS: u64 = 13;
+const CALLS: u64 = 17;
+
+/// A call is tried on so many inputs to one folder of files.
+const INPUTS_TO_A_FOLDER: u64 = 20;
 
 /// The elements before and behind a slice that is lent.
 const GUARD: usize = 16;
@@ -38,6 +46,13 @@ impl<T: Copy + PartialEq + Debug> Lent<T> {
 
     fn len(&self) -> usize {
         self.now.len() - 2 * GUARD
+    }
+
+    /// Puts elements into the slice that the call is to find there.
+    fn put(&mut self, elements: &[T]) {
+        for side in [&mut self.before, &mut self.now] {
+            side[GUARD..GUARD + elements.len()].copy_from_slice(elements);
+        }
     }
 
     /// Whether the slice begins with what was to be written and all else is as it was.
@@ -69,12 +84,27 @@ fn setting(name: &str, unless_set: u64) -> u64 {
     }
 }
 
-/// Tries a call on its share of the inputs. `one` makes an input, calls both sides, and gives the
-/// number that came back with a complaint if they differ. In the end every number of `numbers`, 0
-/// for an answer among them, must have been met.
+/// Tries a call on its share of the inputs.
 fn try_call(call: u64, numbers: &[u8], one: impl Fn(&mut Random) -> (u8, Option<String>)) {
+    try_inputs(call, share_of_inputs(), 10_000, numbers, one)
+}
+
+/// How many inputs a call is tried on.
+fn share_of_inputs() -> u64 {
+    (setting("STACKFILTER_INPUTS", 260_000) + CALLS - 1) / CALLS
+}
+
+/// Tries a call on so many inputs. `one` makes an input, calls both sides, and gives the number that came
+/// back with a complaint if they differ. In the end, where the inputs are enough, every number of `numbers`,
+/// 0 for an answer among them, must have been met.
+fn try_inputs(
+    call: u64,
+    inputs: u64,
+    enough: u64,
+    numbers: &[u8],
+    one: impl Fn(&mut Random) -> (u8, Option<String>),
+) {
     let seed = setting("STACKFILTER_SEED", 1986);
-    let inputs = (setting("STACKFILTER_INPUTS", 260_000) + CALLS - 1) / CALLS;
     let mut met: BTreeMap<u8, u64> = BTreeMap::new();
     for index in 0..inputs {
         let mut random = Random::new(seed ^ call << 56 ^ index << 16);
@@ -86,7 +116,7 @@ fn try_call(call: u64, numbers: &[u8], one: impl Fn(&mut Random) -> (u8, Option<
     }
     println!("{inputs} inputs, by the number that came back: {met:?}");
     let missed: Vec<&u8> = numbers.iter().filter(|number| !met.contains_key(number)).collect();
-    assert!(inputs < 10_000 || missed.is_empty(), "never met: {missed:?}");
+    assert!(inputs < enough || missed.is_empty(), "never met: {missed:?}");
     assert!(met.keys().all(|number| numbers.contains(number)), "not to be expected: {met:?}");
 }
 
@@ -417,5 +447,120 @@ fn line() {
             |out, lent, value| unsafe { raw::sf_line(file.as_ptr(), file.len(), out, lent, value) },
             || Ok(stackfilter::line(&file).into_bytes()),
         )
+    });
+}
+
+#[test]
+fn night_list() {
+    try_call(13, &[0, 19, 20], |random| {
+        let list = random.list();
+        let expected = independent::night_list(&list);
+        let mut value = lend_usize(random);
+        let number = unsafe { raw::sf_night_list(list.as_ptr(), list.len(), value.pointer()) };
+        let (no, gives) = outcome(&expected, |names| *names);
+        let raw_same = number == no && value.holds(&[gives]);
+        let safe = plain(stackfilter::night_list(&list));
+        let complaint = complain(raw_same, &list, &expected, &(number, &value.now))
+            .or_else(|| complain(safe == expected, &list, &expected, &safe));
+        (number, complaint)
+    });
+}
+
+#[test]
+fn night_line() {
+    try_call(14, &[0, 10], |random| {
+        let file = random.file();
+        add_to_totals(random, Some(&file))
+    });
+}
+
+#[test]
+fn night_unopened() {
+    try_call(15, &[0, 10], |random| add_to_totals(random, None));
+}
+
+/// Compares the calls that add a file, or one that was not opened, to totals.
+fn add_to_totals(random: &mut Random, file: Option<&[u8]>) -> (u8, Option<String>) {
+    let before = std::array::from_fn(|_| random.total());
+    let lent = random.exact_length(LINE_BYTES);
+    let (mut line, mut value) = (lend_u8(random, lent), lend_usize(random));
+    let mut totals = Lent::new(TOTALS, || random.bits());
+    totals.put(&before);
+    let number = unsafe {
+        let numbers = totals.pointer().cast();
+        match file {
+            Some(file) => {
+                raw::sf_night_line(file.as_ptr(), file.len(), numbers, line.pointer(), lent, value.pointer())
+            }
+            None => raw::sf_night_unopened(numbers, line.pointer(), lent, value.pointer()),
+        }
+    };
+    let expected = independent::night_line(file, before, lent);
+    let (no, gives) = outcome(&expected, |(line, _)| line.len());
+    let raw_same = number == no
+        && value.holds(&[gives])
+        && line.holds(written(&expected, |(line, _)| line))
+        && totals.holds(written(&expected, |(_, totals)| totals));
+
+    let mut safe_totals = totals_of(before);
+    let safe_line = match file {
+        Some(file) => stackfilter::night_line(file, &mut safe_totals),
+        None => stackfilter::night_unopened(&mut safe_totals),
+    };
+    let ample = independent::night_line(file, before, LINE_BYTES)
+        .map(|(line, totals)| (String::from_utf8(line).unwrap(), totals_of(totals)));
+    let safe = Ok((safe_line, safe_totals));
+    let input = (&file, &before);
+    let got = (number, &value.now, &line.now, &totals.now);
+    let complaint = complain(raw_same, &input, &(lent, &expected), &got)
+        .or_else(|| complain(safe == ample, &input, &ample, &safe));
+    (number, complaint)
+}
+
+fn totals_of(numbers: [u64; TOTALS]) -> Totals {
+    let [cleaned, unopened, bad_term, term_count, scan_length, layout, samples, changed, spikes, above, below] =
+        numbers;
+    Totals {
+        cleaned,
+        unopened,
+        bad_term,
+        term_count,
+        scan_length,
+        layout,
+        samples,
+        changed,
+        spikes,
+        above,
+        below,
+    }
+}
+
+#[test]
+fn night_totals() {
+    try_call(16, &[0, 10], |random| {
+        let totals: [u64; TOTALS] = std::array::from_fn(|_| random.total());
+        let lent = random.exact_length(TOTALS_BYTES);
+        compare(
+            &totals,
+            lend_u8(random, lent),
+            random,
+            independent::night_totals(totals, lent),
+            independent::night_totals(totals, TOTALS_BYTES),
+            |out, lent, value| unsafe { raw::sf_night_totals(&totals, out, lent, value) },
+            || Ok(stackfilter::night_totals(&totals_of(totals)).into_bytes()),
+        )
+    });
+}
+
+#[test]
+fn night() {
+    try_inputs(17, share_of_inputs() / INPUTS_TO_A_FOLDER, 60, &[0, 19, 20], |random| {
+        let folder = Folder::new(random);
+        let names = folder.names(random);
+        let list: Vec<u8> = names.iter().flat_map(|name| [&name[..], &[LINE_FEED]].concat()).collect();
+        let expected = sheets::night(&list, |name| folder.content(name));
+        let got = stackfilter::night(names.iter().map(|name| OsStr::from_bytes(name)));
+        let number = sheets::names(&list).map_or_else(|(number, _)| number, |_| 0);
+        (number, complain(got.as_ref() == Ok(&expected), &(&names, &folder), &expected, &got))
     });
 }

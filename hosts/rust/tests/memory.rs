@@ -1,11 +1,12 @@
 //! An input that is too long is refused before an output is made for it: no call that refuses one asks
-//! for more memory than the largest answer takes.
+//! for more memory than the largest answer takes. Nor does a night for a file or a list that is too long.
 
-use stackfilter::limits::LONGEST_FILE;
+use stackfilter::limits::{LONGEST_FILE, LONGEST_LIST};
 use stackfilter::*;
 use std::alloc::{GlobalAlloc, Layout, System};
 use std::mem::size_of;
 use std::sync::atomic::{AtomicUsize, Ordering};
+use std::{env, fs, process};
 
 /// The system's allocator, which keeps the largest size that it was asked for.
 struct Watched;
@@ -66,4 +67,16 @@ fn what_is_too_long_costs_no_output() {
 
     let file = vec![7; 100 * LONGEST_FILE];
     refused(&|| read(&file).err(), Refusal::Layout);
+
+    // A night reads no more of a file than tells that it is too long, and takes no more names than tell that
+    // they are too many.
+    let path = env::temp_dir().join(format!("stackfilter-memory-{}", process::id()));
+    fs::write(&path, &file).unwrap();
+    let (sheet, asked) = watch(|| night(vec![&path; 3]));
+    fs::remove_file(&path).unwrap();
+    assert_eq!(sheet.unwrap().lines().next(), Some("refused 11 0"));
+    assert!(asked <= 2 * LONGEST_FILE, "{asked} bytes");
+    let (sheet, asked) = watch(|| night(std::iter::repeat("a name")));
+    assert_eq!(sheet.as_deref(), Ok("refused 20 250\n"));
+    assert!(asked <= 2 * LONGEST_LIST, "{asked} bytes");
 }

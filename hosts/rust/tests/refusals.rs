@@ -1,14 +1,14 @@
 //! The refusals of this package against those of the library: their names and numbers in the crate
 //! `refusals`, and the figures in the table of docs/RULES.md.
 
-use stackfilter::{Held, Refusal};
+use stackfilter::{Held, Refusal, MOST_NAMES};
 use std::fs;
 use std::path::Path;
 
 const PLACE: usize = 777_777;
 
 /// Every refusal at that place, in the order of their numbers.
-const REFUSALS: [Refusal; 14] = [
+const REFUSALS: [Refusal; 16] = [
     Refusal::RecipeLength { bytes: PLACE },
     Refusal::StepCode { step: PLACE },
     Refusal::StepField { step: PLACE },
@@ -23,6 +23,8 @@ const REFUSALS: [Refusal; 14] = [
     Refusal::NotPositive { pattern: PLACE },
     Refusal::TableLength { bytes: PLACE },
     Refusal::PresetNumber { number: PLACE },
+    Refusal::BadName { line: PLACE },
+    Refusal::NameCount,
 ];
 
 /// A file of the repository.
@@ -81,9 +83,13 @@ fn each_has_its_place_and_its_own_sentence() {
     let mut sentences = Vec::new();
     let held = [Held::Ninth, Held::NotOne].map(|held| Refusal::SignalsHeld { step: PLACE, held });
     for refusal in REFUSALS.iter().chain(&held) {
-        let placed = *refusal != Refusal::Layout;
-        assert_eq!(refusal.place(), if placed { PLACE } else { 0 });
-        assert_eq!(figures(&refusal.to_string()).contains(&PLACE), placed, "{refusal}");
+        let fixed = match refusal {
+            Refusal::Layout => Some(0),
+            Refusal::NameCount => Some(MOST_NAMES),
+            _ => None,
+        };
+        assert_eq!(refusal.place(), fixed.unwrap_or(PLACE));
+        assert_eq!(figures(&refusal.to_string()).contains(&PLACE), fixed.is_none(), "{refusal}");
         sentences.push(refusal.to_string());
     }
     sentences.sort();

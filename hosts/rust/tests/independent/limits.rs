@@ -35,6 +35,14 @@ pub const LONGEST_FILE: usize = file_bytes(MOST_SAMPLES, MOST_TERMS);
 /// What is lent for the report's line.
 pub const LINE_BYTES: usize = 128;
 
+/// A list of names, one to a line.
+pub const MOST_NAMES: usize = 250;
+pub const LONGEST_NAME: usize = 255;
+pub const LINE_FEED: u8 = 10;
+/// The numbers of the night sheet's last line, and what is lent for it.
+pub const TOTALS: usize = 11;
+pub const TOTALS_BYTES: usize = 512;
+
 // What follows is what the document says in figures.
 const _: () = assert!(PATTERNS == 512 && TABLE_BYTES == 64 && LONGEST_RECIPE == 128);
 const _: () = assert!(TRAILER == 12 && LONGEST_FILE == 33_032);

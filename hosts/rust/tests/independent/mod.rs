@@ -1,6 +1,7 @@
 //! A second implementation of every call, written from the scope document's definitions alone and
 //! by other means than the crates: filters count levels, recipes are trees asked for a stretch of
-//! the endless signal, tables and forms go pattern by pattern.
+//! the endless signal, tables and forms go pattern by pattern, and the night sheet's totals are taken from
+//! the printed lines.
 //!
 //! Each call takes the lengths lent in place of slices and gives what must be written, or the
 //! refusal's number and place.
@@ -9,8 +10,9 @@ pub mod files;
 pub mod forms;
 pub mod limits;
 pub mod recipes;
+pub mod sheets;
 
-use limits::{BYTE_BITS, LINE_BYTES, MOST_SAMPLES, TABLE_BYTES};
+use limits::{BYTE_BITS, LINE_BYTES, MOST_SAMPLES, TABLE_BYTES, TOTALS, TOTALS_BYTES};
 
 /// A refusal's number and place.
 pub type No = (u8, usize);
@@ -116,6 +118,28 @@ pub fn line(file: &[u8], lent: usize) -> Result<Vec<u8>, No> {
         Err((number, place)) => vec!["refused".to_string(), number.to_string(), place.to_string()],
     };
     Ok((fields.join(" ") + "\n").into_bytes())
+}
+
+/// The number of names.
+pub fn night_list(text: &[u8]) -> Result<usize, No> {
+    Ok(sheets::names(text)?.len())
+}
+
+/// The line of a file, or of one that was not opened, and the totals with that line more.
+pub fn night_line(
+    file: Option<&[u8]>,
+    totals: [u64; TOTALS],
+    lent: usize,
+) -> Result<(Vec<u8>, [u64; TOTALS]), No> {
+    check_output(LINE_BYTES, lent)?;
+    let line = sheets::line(file);
+    let totals = sheets::totals(totals, &[&line]);
+    Ok((line.into_bytes(), totals))
+}
+
+pub fn night_totals(totals: [u64; TOTALS], lent: usize) -> Result<Vec<u8>, No> {
+    check_output(TOTALS_BYTES, lent)?;
+    Ok(sheets::last_line(totals).into_bytes())
 }
 
 fn read_sound(file: &[u8]) -> Result<(Vec<u16>, Vec<u16>), No> {

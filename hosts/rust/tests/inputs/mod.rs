@@ -2,9 +2,9 @@
 //! same ones.
 
 use crate::independent::limits::{
-    file_bytes, BYTE_BITS, COUNT_BYTES, DISTANCE_BYTES, LARGEST_SET, LAST_CODE, LONGEST_RECIPE, MARK,
-    MOST_SAMPLES, MOST_SIGNALS, MOST_STEPS, MOST_TERMS, PATTERNS, REACH, STEP_BYTES, TABLE_BYTES, TRAILER,
-    WIDTH, WORD_BYTES,
+    file_bytes, BYTE_BITS, COUNT_BYTES, DISTANCE_BYTES, LARGEST_SET, LAST_CODE, LINE_FEED, LONGEST_FILE,
+    LONGEST_NAME, LONGEST_RECIPE, MARK, MOST_NAMES, MOST_SAMPLES, MOST_SIGNALS, MOST_STEPS, MOST_TERMS,
+    PATTERNS, REACH, STEP_BYTES, TABLE_BYTES, TRAILER, WIDTH, WORD_BYTES,
 };
 use crate::independent::{files, forms, recipes};
 
@@ -321,5 +321,84 @@ impl Random {
         let terms = self.one_of(&[0, 1, MOST_TERMS, MOST_TERMS + 1, numbers - 1, numbers]);
         let ascending: Vec<u16> = (0..terms as u16).collect();
         files::lay_out(&self.samples(numbers - terms), &ascending)
+    }
+
+    /// Bytes over the longest file; one time in two the longest file stands at their start.
+    pub fn file_over_its_limit(&mut self) -> Vec<u8> {
+        let length = LONGEST_FILE + self.one_of(&[1, 2, 3, LONGEST_FILE]);
+        let mut file = self.noise(&[length]);
+        if self.once_in(2) {
+            let terms = forms::least_patterns(|pattern| pattern.count_ones() > REACH as u32);
+            let longest = files::lay_out(&self.samples(MOST_SAMPLES), &terms);
+            file[..LONGEST_FILE].copy_from_slice(&longest);
+        }
+        file
+    }
+
+    // ---- lists of names
+
+    /// How many lines a list has: mostly few, now and then about the most.
+    pub fn lines(&mut self) -> usize {
+        match self.below(10) {
+            0 => 0,
+            1 => self.one_of(&[MOST_NAMES - 1, MOST_NAMES]),
+            2 => self.one_of(&[MOST_NAMES + 1, MOST_NAMES + 2, 2 * MOST_NAMES]),
+            _ => self.between(1, 20),
+        }
+    }
+
+    /// A list of names, one time in two with bad ones, its last line feed one time in two left out.
+    pub fn list(&mut self) -> Vec<u8> {
+        let lines = self.lines();
+        let bad_once_in = self.one_of(&[usize::MAX, usize::MAX, 6, 60]);
+        let mut list = Vec::new();
+        for _ in 0..lines {
+            let length = self.line_length(bad_once_in);
+            list.extend((0..length).map(|_| self.byte_of_a_line()));
+            list.push(LINE_FEED);
+        }
+        if self.once_in(2) {
+            list.pop();
+        }
+        list
+    }
+
+    fn line_length(&mut self, bad_once_in: usize) -> usize {
+        if self.once_in(bad_once_in) {
+            return self.one_of(&[0, 0, LONGEST_NAME + 1, LONGEST_NAME + 2, 2 * LONGEST_NAME + 1, 2_000]);
+        }
+        match self.below(12) {
+            0 => self.one_of(&[LONGEST_NAME - 1, LONGEST_NAME]),
+            _ => self.between(1, 12),
+        }
+    }
+
+    /// Any byte but a line feed, some more often than others.
+    fn byte_of_a_line(&mut self) -> u8 {
+        let any = self.bits() as u8;
+        let byte = self.one_of(&[any, any, any, 0, b' ', b'\r', b'/', 9, 11, 255]);
+        byte + (byte == LINE_FEED) as u8
+    }
+
+    /// The name of a file in a folder: any bytes but those that no such name has.
+    pub fn file_name(&mut self) -> Vec<u8> {
+        let length = self.between(1, 12);
+        let letter = |_| loop {
+            let byte = self.byte_of_a_line();
+            if byte != 0 && byte != b'/' {
+                return byte;
+            }
+        };
+        // A folder has the names `.` and `..` already.
+        [b"n".to_vec(), (0..length).map(letter).collect()].concat()
+    }
+
+    /// Eleven totals, small, or so large that they wrap.
+    pub fn total(&mut self) -> u64 {
+        match self.below(4) {
+            0 => u64::MAX - self.below(3) as u64,
+            1 => self.bits(),
+            _ => self.bits() >> self.below(64),
+        }
     }
 }
