@@ -7,15 +7,11 @@
 
    The scan is written to FILE, for the peers. A time is the best of so many rounds. The recipe that is
    compiled is RECIPE, in hex, or the dearest of some drawn by chance; it is printed as "recipe". */
-#include "../hosts/c/stackfilter.h"
+#include "common.h"
 #include "plain.h"
-#include <stdio.h>
-#include <stdlib.h>
 #include <string.h>
-#include <time.h>
 #include <ucontext.h>
 
-#define SAMPLES SF_MOST_SAMPLES
 #define EVERY_OFFSET (SF_PATTERNS - 1) /* as a set */
 #define MIDDLE (1 << SF_REACH)         /* the set {0} */
 #define NEIGHBOURS ((1 << (SF_REACH + 1)) - 1) /* as many neighbouring offsets as stay near when opened by */
@@ -23,23 +19,6 @@
 
 static int rounds;
 static uint16_t scan[SAMPLES], ours[SAMPLES], plains[SAMPLES];
-
-/* ---- inputs by chance, always the same */
-
-static uint64_t state = 1986;
-
-static unsigned below(unsigned bound) {
-    state = state * 6364136223846793005u + 1442695040888963407u;
-    return (unsigned)((state >> 32) * bound >> 32);
-}
-
-/* A slow wave with noise, and a spike now and then. */
-static void make_scan(void) {
-    for (unsigned x = 0; x < SAMPLES; x++) {
-        unsigned wave = x % 2048 < 1024 ? x % 1024 : 1023 - x % 1024;
-        scan[x] = (uint16_t)(1000 + 10 * wave + below(200) + (below(20) == 0 ? below(40000) : 0));
-    }
-}
 
 /* ---- timing */
 
@@ -54,12 +33,6 @@ typedef struct {
 } job;
 
 typedef void call(job *);
-
-static double now(void) {
-    struct timespec t;
-    clock_gettime(CLOCK_MONOTONIC, &t);
-    return 1e9 * (double)t.tv_sec + (double)t.tv_nsec;
-}
 
 static double time_once(call *run, job *j, unsigned times) {
     double start = now();
@@ -82,19 +55,9 @@ static void time_best(call *one, call *other, job *j, double *best_one, double *
         }
 }
 
-static void refuse_to_go_on(const char *what) {
-    fprintf(stderr, "bench: %s\n", what);
-    exit(1);
-}
-
 /* ---- the calls */
 
 static size_t value, terms_read;
-
-static void demand(uint8_t number) {
-    if (number != 0)
-        refuse_to_go_on("a call was refused");
-}
 
 static void clean(job *j) { demand(sf_clean(j->terms, j->m, scan, SAMPLES, ours, SAMPLES, &value)); }
 static void count(job *j) { uint64_t counts[SF_COUNTS]; demand(sf_count(j->file, j->file_bytes, counts, &value)); }
@@ -111,9 +74,13 @@ static void read_file(job *j) {
     demand(sf_read(j->file, j->file_bytes, ours, SAMPLES, j->terms, SF_MOST_TERMS, &value, &terms_read));
 }
 
-/* The other calls, for their stack. An older checkout (bench/run --against) has not got the first two. */
+/* The other calls, for their stack. An older checkout (bench/run --against) has not got these. */
 #pragma weak sf_check
 #pragma weak sf_line
+#pragma weak sf_night_list
+#pragma weak sf_night_line
+#pragma weak sf_night_unopened
+#pragma weak sf_night_totals
 static int32_t residues[SAMPLES];
 static uint8_t table[SF_TABLE_BYTES];
 
@@ -132,6 +99,38 @@ static void line(job *j) {
     uint8_t text[SF_LINE_BYTES];
     if (sf_line)
         demand(sf_line(j->file, j->file_bytes, text, sizeof text, &value));
+}
+
+static uint64_t totals[SF_TOTALS];
+
+static void night_list(job *j) {
+    static uint8_t list[SF_LONGEST_LIST];
+    (void)j;
+    for (size_t i = 0; i < SF_LONGEST_LIST; i++)
+        list[i] = (i + 1) % (SF_LONGEST_NAME + 1) == 0 ? '\n' : 'a';
+    if (sf_night_list)
+        demand(sf_night_list(list, SF_LONGEST_LIST, &value));
+}
+
+static void night_line(job *j) {
+    uint8_t text[SF_LINE_BYTES];
+    if (sf_night_line)
+        demand(sf_night_line(j->file, j->file_bytes, totals, text, sizeof text, &value));
+}
+
+static void night_unopened(job *j) {
+    uint8_t text[SF_LINE_BYTES];
+    (void)j;
+    if (sf_night_unopened)
+        demand(sf_night_unopened(totals, text, sizeof text, &value));
+}
+
+static void night_totals(job *j) {
+    uint8_t text[SF_TOTALS_BYTES];
+    (void)j;
+    memset(totals, 255, sizeof totals);
+    if (sf_night_totals)
+        demand(sf_night_totals(totals, text, sizeof text, &value));
 }
 
 static void preset(job *j) {
@@ -379,7 +378,9 @@ static void stacks(job recipe) {
         {"sf_form_to_table", form_to_table, &form}, {"sf_table_to_form", table_to_form, &form},
         {"sf_preset", preset, &recipe},        {"sf_write", write_file, &file},
         {"sf_read", read_file, &file},         {"sf_count", count, &file},
-        {"sf_line", line, &file}};
+        {"sf_line", line, &file},              {"sf_night_list", night_list, &file},
+        {"sf_night_line", night_line, &file},  {"sf_night_unopened", night_unopened, &file},
+        {"sf_night_totals", night_totals, &file}};
     for (size_t i = 0; i < sizeof calls / sizeof *calls; i++)
         printf("stack\t%s\t%zu\n", calls[i].name, deepest(calls[i].run, calls[i].j) - deepest(do_nothing, NULL));
 }
@@ -393,7 +394,7 @@ static void save_scan(const char *path) {
 int main(int count_of_arguments, char **arguments) {
     if (count_of_arguments < 3 || count_of_arguments > 4 || (rounds = atoi(arguments[2])) < 1)
         refuse_to_go_on("usage: measure FILE ROUNDS [RECIPE]");
-    make_scan();
+    make_scan(scan);
     save_scan(arguments[1]);
     forms();
     recipes();
