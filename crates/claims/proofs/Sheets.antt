@@ -22,9 +22,10 @@ use Rattle.totals.specs.declared.Outcome.the-variants.{Unopened, Opened}
 use Rattle.totals.specs.Totals.{totalsOf}
 use Rattle.totals.specs.Nights.{OfFiles, running, filesIn}
 use Rattle.totals.proofs.Nights.{every-file-counted, night-exact}
-use Rattle.lines.specs.Lines.{digitsOf, decimal, lineOf, refusedWord, unopenedWord, outcomeLine, totalsLine}
+use Rattle.lines.specs.Lines.{digitsOf, decimal, lineOf, outcomeLine, totalsLine}
 use Rattle.lines.proofs.Decimals.{length-digits, length-decimal, lt-power}
-use Rattle.lines.proofs.Fields.{Each, each-all, fields, each-field, wordsOf, numbersOf, outcome-fields}
+use Rattle.lines.proofs.Fields.{Each, fields, wordsOf, numbersOf, outcome-fields}
+use Rattle.lines.proofs.Inside.{Inside, words-inside, fields-inside}
 use Rattle.lines.proofs.Feeds.{outcome-feed}
 use Rattle.claims.specs.Words.{linesAbove}
 
@@ -70,10 +71,6 @@ decimal-told {m} {n} e =
 
 -- ---- a line is told by its fields
 
--- a byte of a field: no space, and no line feed
-abbrev Inside : ℕ → Type 0
-Inside b = 32 < b
-
 -- bytes of a field up to a byte that is none
 cut : (a b : List ℕ) (x y : ℕ) (r s : List ℕ) → Each Inside a → Each Inside b → x ≤ 32 → y ≤ 32 → a ++ (x ∷ r) ≡ b ++ (y ∷ s)
     → (a ≡ b) × (x ≡ y) × (r ≡ s)
@@ -112,36 +109,11 @@ line-told (f ∷ fs) (g ∷ gs) r s h k p q e = fields-told f fs g gs r s p q e
 
 -- ---- an outcome is told by its line
 
-glyph-inside : (d : ℕ) → Inside (glyph d)
-glyph-inside d = go (which (ltb d 10))
-  where
-    go : (ltb d 10 ≡ true) ⊎ (ltb d 10 ≡ false) → Inside (glyph d)
-    go (inl e) = rw e (omega arith)
-    go (inr e) = rw e (omega arith)
-
-each-snoc : (a : List ℕ) (b : ℕ) → Each Inside a → Inside b → Each Inside (a ++ (b ∷ []))
-each-snoc [] b p q = (q, tt)
-each-snoc (c ∷ a) b p q = (p .0, each-snoc a b (p .1) q)
-
-digits-inside : (k n : ℕ) → Each Inside (digits 10 k n)
-digits-inside zero n = tt
-digits-inside (suc k) n = each-snoc (digits 10 k (n / 10)) (glyph (n % 10)) (digits-inside k (n / 10)) (glyph-inside (n % 10))
-
-decimal-inside : (n : ℕ) → Each Inside (decimal n)
-unfolding decimal
-decimal-inside n = digits-inside (digitsOf n) n
-
-words-inside : (o : Outcome) → Each (Each Inside) (wordsOf o)
-unfolding unopenedWord refusedWord
-words-inside Unopened = omega arith
-words-inside (Opened (Counted c)) = tt
-words-inside (Opened (Refused r)) = omega arith
-
 abbrev fieldsOf : Outcome → List (List ℕ)
 fieldsOf o = fields (wordsOf o) (numbersOf o)
 
 inside : (o : Outcome) → Each (Each Inside) (fieldsOf o)
-inside o = each-field (Each Inside) (wordsOf o) (numbersOf o) (words-inside o) (each-all decimal-inside (numbersOf o))
+inside o = fields-inside (wordsOf o) (numbersOf o) (words-inside o)
 
 some-field : (o : Outcome) → 0 < length (fieldsOf o)
 some-field Unopened = omega arith

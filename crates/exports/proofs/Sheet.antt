@@ -14,7 +14,7 @@ use Rattle.totals.specs.Nights.{OfFiles, running}
 use Rattle.totals.proofs.Nights.{night-exact}
 use Rattle.lines.specs.Lines.{outcomeLine, reportLine, elevenOf}
 use Rattle.lines.proofs.Counted.{line-counted}
-use Rattle.exports.specs.Sheet.{outcomeIn, totalsIn, summed}
+use Rattle.exports.specs.Sheet.{outcomeIn, summed}
 
 pub line-of-report : (f : List ℕ) → outcomeLine (outcomeIn f) ≡ reportLine f
 line-of-report f = line-counted f refl

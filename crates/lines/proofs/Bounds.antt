@@ -3,16 +3,11 @@
 use Prim.Native.Nat.{ℕ, _+_, _-_, _*_, _^_, _≤_, _<_}
 use native.Mathlib.Nat.{div-le-self}
 use native.Mathlib.Omega.{arith}
-use mathlib.Core.Path.{_≡_, refl}
 use mathlib.Core.List.{List}
 use lib.ListN.{length}
 use Rattle.limits.specs.Limits.{width, top, mostSamples, wordBytes, trailerBytes}
-use Rattle.theory.specs.Lists.{first}
 use Rattle.theory.specs.Forms.{isBad}
 use Rattle.refusals.specs.declared.Refusal.{Refusal}
-use Rattle.refusals.specs.declared.Checked.{Checked}
-use Rattle.refusals.specs.declared.Checked.the-variants as checked
-use Rattle.refusals.specs.Refusals.{answered}
 use Rattle.files.specs.Bytes.{longAt}
 use Rattle.files.specs.Layout.{countsFamily, termCount, samplesBack, termsBack, fileTerms, sampleCount}
 use Rattle.files.specs.Files.{fileChecked}
@@ -20,13 +15,13 @@ use Rattle.files.proofs.Words.{Bytes}
 use Rattle.files.proofs.Layouts.{terms-counted}
 use Rattle.reports.specs.declared.Counts.{Counts}
 use Rattle.reports.specs.declared.CountAnswer.the-variants.{Counted, Refused}
-use Rattle.reports.specs.Counts.{countsIn}
 use Rattle.reports.proofs.Sums.{first-le}
-use Rattle.reports.proofs.Bounds.{Most, word-most, accepted-most}
+use Rattle.reports.proofs.Bounds.{Most, word-most}
 use Rattle.reports.proofs.Refused.{IfRefused, file-refused}
 use Rattle.totals.specs.declared.Outcome.{Outcome}
 use Rattle.totals.specs.declared.Outcome.the-variants.{Opened}
-use Rattle.totals.specs.Nights.{OfFile, not-opened, opened}
+use Rattle.totals.specs.Nights.{OfFile}
+use Rattle.totals.proofs.Files.{by-outcome}
 use Rattle.lines.proofs.Fields.{Each, Fits, numbersOf}
 
 counts-fit : (c : Counts) → Most (top * mostSamples) c → Each Fits (numbersOf (Opened (Counted c)))
@@ -57,10 +52,4 @@ module _ (f : List ℕ) (bytes : Bytes f) where
 
 -- whatever becomes of a file
 pub numbers-fit : {o : Outcome} → OfFile o → Each Fits (numbersOf o)
-numbers-fit not-opened = tt
-numbers-fit (opened f bytes a e) = rw e (go (fileChecked countsFamily f) (accepted-most f bytes) (refusal-fits f bytes))
-  where
-    go : (c : Checked) → (c ≡ checked.Fine → Most (top * mostSamples) (countsIn f)) → IfRefused RefusalFits c
-        → Each Fits (numbersOf (Opened (answered c (Counted (countsIn f)) Refused)))
-    go checked.Fine most fit = counts-fit (countsIn f) (most refl)
-    go (checked.Refused r) most fit = fit
+numbers-fit = by-outcome (λ o. Each Fits (numbersOf o)) tt counts-fit refusal-fits

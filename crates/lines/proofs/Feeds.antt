@@ -1,23 +1,20 @@
 -- The line feed at the end of a line is its only one.
 -- Assumes nothing.
-use Prim.Native.Nat.{ℕ, zero, suc, _+_, _/_, _%_}
+use Prim.Native.Nat.{ℕ}
 use native.Mathlib.Omega.{arith}
 use mathlib.Core.Path.{_≡_, refl, sym, ap, _∙_, subst}
-use mathlib.Core.Bool.{Bool, true, false, not}
+use mathlib.Core.Bool.{Bool, true, not}
 use mathlib.Core.List.{List, [], _∷_, _++_, append-assoc}
-use mathlib.Core.Logic.{_⊎_, inl, inr}
-use lib.Dec.{eqb, ltb}
+use lib.Dec.{eqb}
 use borrow.Author.Tests.{ne-eqb}
-use Rattle.io.specs.Digits.{glyph, digits}
 use Rattle.theory.specs.Lists.{all}
-use Rattle.theory.proofs.Tests.{which, and-left, and-right, and-both}
-use Rattle.reports.specs.declared.CountAnswer.the-variants.{Counted, Refused}
+use Rattle.theory.proofs.Tests.{and-left, and-right, and-both}
 use Rattle.totals.specs.declared.Outcome.{Outcome}
-use Rattle.totals.specs.declared.Outcome.the-variants.{Unopened, Opened}
 use Rattle.totals.specs.declared.Totals.{Totals}
-use Rattle.lines.specs.Lines.{digitsOf, decimal, lineOf, refusedWord, unopenedWord, reportLine, outcomeLine, elevenOf, totalsLine}
+use Rattle.lines.specs.Lines.{lineOf, reportLine, outcomeLine, elevenOf, totalsLine}
 use Rattle.lines.proofs.Counted.{line-counted}
-use Rattle.lines.proofs.Fields.{Each, each-all, fields, each-field, wordsOf, numbersOf, outcome-fields, totals-fields}
+use Rattle.lines.proofs.Fields.{Each, each-so, fields, wordsOf, numbersOf, outcome-fields, totals-fields}
+use Rattle.lines.proofs.Inside.{Inside, words-inside, fields-inside}
 
 -- a byte that is no line feed, and bytes with none among them
 abbrev pub isPlain : ℕ → Bool
@@ -38,26 +35,10 @@ plain-both [] b p q = q
 plain-both (x ∷ a) b p q =
     and-both {a = isPlain x} (and-left (isPlain x) (all isPlain a) p) (plain-both a b (and-right (isPlain x) (all isPlain a) p) q)
 
--- ---- fields
-
-plain-digits : (k n : ℕ) → Plain (digits 10 k n)
+plain-inside : (bytes : List ℕ) → Each Inside bytes → Plain bytes
 unfolding all
-plain-digits zero n = refl
-plain-digits (suc k) n = plain-both (digits 10 k (n / 10)) (glyph (n % 10) ∷ []) (plain-digits k (n / 10)) (one (which (ltb (n % 10) 10)))
-  where
-    one : (ltb (n % 10) 10 ≡ true) ⊎ (ltb (n % 10) 10 ≡ false) → Plain (glyph (n % 10) ∷ [])
-    one (inl e) = rw (e, ne-eqb (48 + n % 10) 10 (λ z. omega arith))
-    one (inr e) = rw (e, ne-eqb (87 + n % 10) 10 (λ z. omega arith))
-
-plain-decimal : (n : ℕ) → Plain (decimal n)
-unfolding decimal
-plain-decimal n = plain-digits (digitsOf n) n
-
-plain-words : (o : Outcome) → Each Plain (wordsOf o)
-unfolding all unopenedWord refusedWord
-plain-words Unopened = (refl, tt)
-plain-words (Opened (Counted c)) = tt
-plain-words (Opened (Refused r)) = (refl, tt)
+plain-inside [] p = refl
+plain-inside (b ∷ bytes) p = and-both {a = isPlain b} (rw (ne-eqb b 10 (λ z. omega (arith, p .0)))) (plain-inside bytes (p .1))
 
 -- ---- lines
 
@@ -74,12 +55,12 @@ one-feed (field ∷ next ∷ fs) p =
       plain = plain-both field (32 ∷ rest .front) (p .0) (rest .plain);
     }
 
-fields-feed : (words : List (List ℕ)) (numbers : List ℕ) → Each Plain words → OneFeed (lineOf (fields words numbers))
-fields-feed words numbers w = one-feed (fields words numbers) (each-field Plain words numbers w (each-all plain-decimal numbers))
+fields-feed : (words : List (List ℕ)) (numbers : List ℕ) → Each (Each Inside) words → OneFeed (lineOf (fields words numbers))
+fields-feed words numbers w = one-feed (fields words numbers) (each-so plain-inside (fields words numbers) (fields-inside words numbers w))
 
 -- the line of any outcome ends with its only line feed
 pub outcome-feed : (o : Outcome) → OneFeed (outcomeLine o)
-outcome-feed o = rw (outcome-fields o) (fields-feed (wordsOf o) (numbersOf o) (plain-words o))
+outcome-feed o = rw (outcome-fields o) (fields-feed (wordsOf o) (numbersOf o) (words-inside o))
 
 -- the line of any totals does
 pub totals-feed : (t : Totals) → OneFeed (totalsLine t)

@@ -4,6 +4,7 @@ pub mod Numbers
 pub mod Puts
 pub mod Counted
 pub mod Fields
+pub mod Inside
 pub mod Decided
 pub mod Bounds
 pub mod Lengths

@@ -3,6 +3,7 @@
 use Prim.Native.Nat.{ℕ, _+_, _*_, _≤_}
 use native.Mathlib.Omega.{arith}
 use mathlib.Core.Path.{_≡_, refl}
+use mathlib.Core.List.{List}
 use lib.Dec.{eqb}
 use Rattle.limits.specs.Limits.{top, mostSamples}
 use Rattle.theory.specs.Lists.{bit}
@@ -13,6 +14,7 @@ use Rattle.refusals.specs.declared.Checked.the-variants as checked
 use Rattle.refusals.specs.Refusals.{answered}
 use Rattle.files.specs.Layout.{countsFamily}
 use Rattle.files.specs.Files.{fileChecked}
+use Rattle.files.proofs.Words.{Bytes}
 use Rattle.reports.specs.declared.Counts.{Counts}
 use Rattle.reports.specs.declared.CountAnswer.the-variants.{Counted, Refused}
 use Rattle.reports.specs.Counts.{countsIn}
@@ -34,15 +36,20 @@ Lands Unopened = Unit
 Lands (Opened (Counted c)) = Most (top * mostSamples) c
 Lands (Opened (Refused r)) = Known r
 
+-- a claim holds of what becomes of a file where it holds of one that is not opened, of counts as large as a file's, and of a file's refusal
+pub by-outcome : (P : Outcome → Type 0) → P Unopened → ((c : Counts) → Most (top * mostSamples) c → P (Opened (Counted c)))
+    → ((f : List ℕ) → Bytes f → IfRefused (λ r. P (Opened (Refused r))) (fileChecked countsFamily f)) → {o : Outcome} → OfFile o → P o
+by-outcome P none counted refused not-opened = none
+by-outcome P none counted refused (opened f bytes a e) = rw e (go (fileChecked countsFamily f) (accepted-most f bytes) (refused f bytes))
+  where
+    go : (c : Checked) → (c ≡ checked.Fine → Most (top * mostSamples) (countsIn f)) → IfRefused (λ r. P (Opened (Refused r))) c
+        → P (Opened (answered c (Counted (countsIn f)) Refused))
+    go checked.Fine most told = counted (countsIn f) (most refl)
+    go (checked.Refused r) most told = told
+
 pub file-lands : {o : Outcome} → OfFile o → Lands o
 unfolding bit
-file-lands not-opened = tt
-file-lands (opened f bytes a e) = rw e (go (fileChecked countsFamily f) (accepted-most f bytes) (file-refused Known f refl refl refl refl))
-  where
-    go : (c : Checked) → (c ≡ checked.Fine → Most (top * mostSamples) (countsIn f)) → IfRefused Known c
-        → Lands (Opened (answered c (Counted (countsIn f)) Refused))
-    go checked.Fine most known = most refl
-    go (checked.Refused r) most known = known
+file-lands = by-outcome Lands tt (λ c most. most) (λ f bytes. file-refused Known f refl refl refl refl)
 
 -- it is one file
 pub adds-one : (o : Outcome) → Lands o → filesIn (adds o) ≡ 1

@@ -1,9 +1,9 @@
 -- `lines::put_number` meets its contract: the toolchain's digits are the number's. Assumes nothing.
 use borrow.Author.Needs.{needs}
-use Prim.Native.Nat.{ℕ, _+_}
+use Prim.Native.Nat.{ℕ}
 use native.Mathlib.Omega.{arith}
 use mathlib.Core.Path.{_≡_, ap, _∙_}
-use mathlib.Core.List.{List, [], _∷_, _++_}
+use mathlib.Core.List.{[], _∷_}
 use lib.ListN.{length-append, take}
 use lib.Seq.{length-take-le}
 use Rattle.io.specs.Digits.{digits}
