@@ -14,6 +14,7 @@ can be loaded before the C library), and several at once that append to one file
 
 import errno
 import os
+import pathlib
 import platform
 import signal
 import subprocess
@@ -27,6 +28,7 @@ from groups.files import WORKED_FILE
 from programs import check_said, expect, interrupts, run
 from rules.lines import line_of
 
+CRATES = pathlib.Path(__file__).resolve().parent.parent / "crates"
 WORKED = bytes(WORKED_FILE)
 WORKED_LINE = line_of(WORKED_FILE).encode()
 AT_ONCE, EACH = 4, 25
@@ -58,6 +60,13 @@ def whole_files():
 def check_file(command, file):
     expect("a file of %d bytes" % len(file), run(command, input=bytes(file)),
            (line_of(file).encode(), b""))
+
+
+def check_stored_files(command):
+    """The two files that README shows, with their lines as they are printed there."""
+    for name, line in (("report/stdin", b"5 1 1 80 0\n"), ("night/data/two-spikes", b"6 2 2 80 10\n")):
+        with open(CRATES / name, "rb") as file:
+            expect("the file %s" % name, run(command, stdin=file), (line, b""))
 
 
 def check_endless_input(command):
@@ -146,8 +155,9 @@ def main(command):
     files = list(whole_files())
     for file in files:
         check_file(command, file)
+    check_stored_files(command)
     check_endless_input(command)
-    print("the report program printed the right line for %d files" % (len(files) + 1))
+    print("the report program printed the right line for %d files" % (len(files) + 3))
     check_unread_inputs(command)
     check_unwritten_outputs(command)
     check_arguments(command)

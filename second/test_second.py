@@ -177,9 +177,14 @@ class Readings(Case):
         files.read(files.file_of([16], [9, 8]), samples, terms)
         self.assertEqual((samples, terms), ([9, 8, 1], [16, 2, 2]))
 
-    def test_spike_is_a_run_that_cannot_be_lengthened(self):
+    def test_spike_is_a_run_of_one_sign_that_cannot_be_lengthened(self):
         self.assertEqual(files.count(files.file_of(MEDIAN_3, [10, 10, 90, 0, 10, 10])),
-                         (6, 2, 1, 80, 10))
+                         (6, 2, 2, 80, 10))
+        for residues, number in (([], 0), ([0], 0), ([0, 0], 0), ([5], 1), ([-5], 1), ([5, 6], 1),
+                                 ([-5, -6], 1), ([5, -5], 2), ([-5, 5], 2), ([5, 0, 5], 2),
+                                 ([5, 0, -5], 2), ([0, 5, -1, -1, 5, 5, 0, 0, -5, 0], 4),
+                                 ([1, -1, 1, -1], 4)):
+            self.assertEqual(files.spikes(residues), number)
 
 
 class NightSheet(Case):
@@ -266,8 +271,8 @@ class NightSheet(Case):
         self.assertEqual(
             self.sheet(b"worked\nnone\nseven\nnine\neleven\ndown\n a b\r\ntwo\nworked\nworked\r\n"),
             "5 1 1 80 0\nunopened\nrefused 7 1\nrefused 9 0\nrefused 11 0\n1 1 1 0 1\n"
-            "1 0 0 0 0\n6 2 1 80 10\n5 1 1 80 0\nunopened\n"
-            "5 2 1 0 1 1 18 5 4 240 11\n")
+            "1 0 0 0 0\n6 2 2 80 10\n5 1 1 80 0\nunopened\n"
+            "5 2 1 0 1 1 18 5 5 240 11\n")
 
     def test_a_name_with_a_0_byte_is_not_looked_for(self):
         def found(name):

@@ -25,7 +25,7 @@
 #include <stddef.h>
 #include <stdint.h>
 
-#define SF_VERSION "0.2.0"
+#define SF_VERSION "0.3.0"
 
 #define SF_REACH 4                       /* an offset is -SF_REACH to SF_REACH */
 #define SF_WIDTH (2 * SF_REACH + 1)      /* the number of offsets */
@@ -292,9 +292,9 @@ uint8_t sf_write(const uint16_t *terms, size_t m, const uint16_t *scan, size_t s
 
 /*
  * Filters the scan that a scan file holds by the form beside it and writes five counts: samples,
- * changed samples, spikes (runs of neighbouring changed samples), total of positive residues, total
- * of negative residues with the sign dropped; *value is the number of samples. Not in place: the counts
- * may not overlap the file.
+ * changed samples, spikes (longest runs of neighbouring samples whose residues are of one sign), total
+ * of positive residues, total of negative residues with the sign dropped; *value is the number of
+ * samples. Not in place: the counts may not overlap the file.
  * Refuses 11, 7, 8, 9.
  */
 uint8_t sf_count(const uint8_t *file, size_t n, uint64_t counts[SF_COUNTS], size_t *value);

@@ -47,6 +47,9 @@ static const uint16_t FORM[] = {24, 40, 48}, UNSORTED[] = {24, 16};
 static const uint16_t SCAN[] = {10, 10, 90, 10, 10};
 static const uint8_t FILE_BYTES[] = {10, 0, 10, 0, 90, 0, 10, 0, 10, 0, 24, 0, 40, 0, 48, 0,
                                      28, 0, 0, 0, 18, 0, 0, 0, 3, 0, 0x53, 0x46};
+/* A spike up beside a spike down. */
+static const uint8_t TWO_SPIKES[] = {10, 0, 10, 0, 90, 0, 0, 0, 10, 0, 10, 0, 24, 0, 40, 0, 48, 0,
+                                     30, 0, 0, 0, 18, 0, 0, 0, 3, 0, 0x53, 0x46};
 
 static void recipes(void) {
     uint16_t terms[5] = {1, 2, 3, 4, 5};
@@ -205,6 +208,8 @@ static void files(void) {
     same("count, refused", counts, (uint64_t[]){1, 2, 3, 4, 5, 6}, sizeof counts);
     expect("count", sf_count(FILE_BYTES, 28, counts, &value), 0, 5);
     same("count", counts, (uint64_t[]){5, 1, 1, 80, 0, 6}, sizeof counts);
+    expect("count, two spikes", sf_count(TWO_SPIKES, 30, counts, &value), 0, 6);
+    same("count, two spikes", counts, (uint64_t[]){6, 2, 2, 80, 10, 6}, sizeof counts);
 
     uint8_t line[SF_LINE_BYTES + 1], before[SF_LINE_BYTES + 1];
     memset(line, 7, sizeof line);
@@ -275,8 +280,9 @@ static void night(void) {
     same("night_line, bad term", out, "refused 7 1\n", 12);
     expect("night_line, no samples", sf_night_line(no_samples, sizeof no_samples, all, out, SF_LINE_BYTES, &value), 0, 12);
     same("night_line, no samples", out, "refused 9 0\n", 12);
-    expect("night_line, again", sf_night_line(FILE_BYTES, 28, all, out, SF_LINE_BYTES, &value), 0, 11);
-    const uint64_t sums[] = {99, 2, 1, 1, 0, 1, 1, 10, 2, 2, 160, 0, 99};
+    expect("night_line, two spikes", sf_night_line(TWO_SPIKES, 30, all, out, SF_LINE_BYTES, &value), 0, 12);
+    same("night_line, two spikes", out, "6 2 2 80 10\n", 12);
+    const uint64_t sums[] = {99, 2, 1, 1, 0, 1, 1, 11, 3, 3, 160, 10, 99};
     same("the totals so far", totals, sums, sizeof totals);
 
     memset(room, 7, sizeof room);
@@ -292,8 +298,8 @@ static void night(void) {
     same("refused, out", room, before, sizeof room);
     same("refused, totals", totals, sums, sizeof totals);
 
-    expect("night_totals", sf_night_totals(all, out, SF_TOTALS_BYTES, &value), 0, 25);
-    same("night_totals", out, "2 1 1 0 1 1 10 2 2 160 0\n", 25);
+    expect("night_totals", sf_night_totals(all, out, SF_TOTALS_BYTES, &value), 0, 26);
+    same("night_totals", out, "2 1 1 0 1 1 11 3 3 160 10\n", 26);
     same("night_totals, before", room, before, 1);
     same("night_totals, totals", totals, sums, sizeof totals);
 

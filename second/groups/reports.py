@@ -1,6 +1,6 @@
 """Counting from a scan file for the report."""
 
-from itertools import groupby
+from itertools import accumulate, groupby, product
 
 import chance as by
 from groups import files
@@ -8,6 +8,9 @@ from groups.scans import MEDIAN_3
 from rules.files import file_of
 from rules.limits import LARGEST_SET, TOP
 from wire import call
+
+# The forms that give the sample before, and the one behind.
+BEFORE, BEHIND = 8, 32
 
 
 def read_files(chance):
@@ -27,6 +30,18 @@ def counted(chance):
         yield call("count", file_of(by.any_form(chance), by.scan(chance)))
 
 
+def signs():
+    """Every row of four signs, with a residue of 0 before it or behind it: the sample before, or the
+    one behind, taken from each sample."""
+    for row in product((0, 1, -1), repeat=4):
+        scan = list(accumulate(row, initial=len(row)))
+        yield call("count", file_of([BEFORE], scan))
+        yield call("count", file_of([BEHIND], scan[::-1]))
+    for row in ([0, TOP], [0, TOP, 0], [TOP, 0, TOP, 0], [0, TOP, TOP, 0, TOP, 1]):
+        yield call("count", file_of([BEFORE], row))
+
+
 def calls(chance):
     yield from counted(chance)
+    yield from signs()
     yield from read_files(chance)

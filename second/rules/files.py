@@ -101,10 +101,14 @@ def read(file, lent_samples, lent_terms):
 
 # ---- counting
 
+def sign(number):
+    return (number > 0) - (number < 0)
+
+
 def spikes(residue_list):
     """How many there are: "A spike is a longest run of neighbouring samples whose residue isn't
-    0"."""
-    return sum(1 for changed, _ in groupby(residue_list, lambda r: r != 0) if changed)
+    0", and by request 2 "a run also ends where the residue changes sign"."""
+    return sum(1 for a_sign, _ in groupby(residue_list, sign) if a_sign != 0)
 
 
 def count(file):

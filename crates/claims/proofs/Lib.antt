@@ -5,4 +5,5 @@ pub mod Filters
 pub mod Ranks
 pub mod Sheets
 pub mod Claims
+pub mod Counts
 pub mod Nights

@@ -2,6 +2,7 @@
 pub mod Sums
 pub mod Spikes
 pub mod Residues
+pub mod Starts
 pub mod Counted
 pub mod Decided
 pub mod Bounds

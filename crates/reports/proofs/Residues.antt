@@ -1,13 +1,14 @@
--- The difference of two counts as a residue: when it is a change, and how far it lies above or below 0.
+-- The difference of two counts as a residue: when it is a change, its sign, and how far it lies above or below 0.
 -- Assumes nothing.
 use mathlib.Core.Path.{_≡_}
 use mathlib.Core.Bool.{true, false, not}
 use mathlib.Core.Logic.{_⊎_, inl, inr}
 use Prim.Native.Nat.{ℕ, suc, _-_, _≤_, _<_}
 use native.Mathlib.Omega.{arith}
-use lib.Dec.{eqb}
+use lib.Dec.{ltb, eqb}
 use lib.IntN.{pos, _-ℤ_}
-use borrow.Author.Tests.{eqb-true, eqb-false, ne-eqb, lt-ltb}
+use lib.Signed.{nonNeg}
+use borrow.Author.Tests.{eqb-true, eqb-false, ne-eqb, lt-ltb, le-ltb}
 use Rattle.theory.proofs.Tests.{which}
 use Rattle.theory.proofs.Differences.{side, minus-high, minus-low}
 use Rattle.reports.specs.Counts.{isChange, above, below}
@@ -22,6 +23,13 @@ change-difference a b = go (side a b) (which (eqb a b))
     go (inr l) (inr e) =
         let ne : a ≡ b → ⊥ = eqb-false a b e in
         rw (minus-high a b l, e) (lt-ltb 0 (a - b) (omega arith))
+
+pub sign-difference : (a b : ℕ) → nonNeg (pos a -ℤ pos b) ≡ not (ltb a b)
+sign-difference a b = go (side a b)
+  where
+    go : (a < b) ⊎ (b ≤ a) → nonNeg (pos a -ℤ pos b) ≡ not (ltb a b)
+    go (inl l) = rw (minus-low a b l, lt-ltb a b l)
+    go (inr l) = rw (minus-high a b l, le-ltb a b l)
 
 pub above-difference : (a b : ℕ) → above (pos a -ℤ pos b) ≡ a - b
 above-difference a b = go (side a b)

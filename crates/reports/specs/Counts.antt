@@ -1,4 +1,5 @@
--- The report's counts of a form and a scan, each the count or the sum of document 01's definition over the residues.
+-- The report's counts of a form and a scan, each the count or the sum of document 01's definition over the residues; a spike as request 2 of
+-- document 02 has it.
 use Prim.Native.Nat.{ℕ}
 use mathlib.Core.Path.{_≡_}
 use mathlib.Core.Bool.{Bool, cond}
@@ -21,9 +22,9 @@ use Rattle.reports.specs.Runs.{longestRuns}
 unfoldable pub isChange : ℤ → Bool
 isChange r = ltb 0 (natAbs r)
 
--- the kind that a spike's samples have in common: the residue isn't 0
+-- the kind that a spike's samples have in common, the residue's sign: 1 above 0, 2 below 0; a residue of 0 is of none
 unfoldable pub kindOf : ℤ → ℕ
-kindOf r = bit (isChange r)
+kindOf r = cond (isChange r) (cond (nonNeg r) 1 2) 0
 
 -- a positive residue; 0 for another
 abbrev pub above : ℤ → ℕ
@@ -33,8 +34,8 @@ above r = cond (nonNeg r) (natAbs r) 0
 abbrev pub below : ℤ → ℕ
 below r = cond (nonNeg r) 0 (natAbs r)
 
--- the counts of n residues: the samples, those that changed, the longest runs of them, the total of the positive residues, and that of the
--- negative ones with the sign dropped
+-- the counts of n residues: the samples, those that changed, the spikes (longest runs of neighbouring samples whose residues are of one sign),
+-- the total of the positive residues, and that of the negative ones with the sign dropped
 unfoldable pub countsOf : ℕ → (ℕ → ℤ) → Counts
 countsOf n residue = record {
   samples = n;

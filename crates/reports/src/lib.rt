@@ -23,7 +23,7 @@ pub struct Counts {
     pub samples: u64,
     // How many of them have a residue that isn't 0.
     pub changed: u64,
-    // How many longest runs of neighbouring changed samples there are.
+    // How many longest runs of neighbouring samples there are whose residues are of one sign.
     pub spikes: u64,
     // The total of the positive residues.
     pub up: u64,
@@ -44,11 +44,14 @@ fn excess(a: u16, b: u16) -> usize
     if b < a { (a - b) as usize } else { 0 }
 }
 
-// The kind that a spike's samples have in common; 0 for a sample that did not change.
+// The kind that a spike's samples have in common, the residue's sign: 1 above 0, 2 below 0; 0 for a sample that did not change.
 fn kind(raw: u16, cleaned: u16) -> usize
     ensures { λ r. ⌜ r ≡ kindOf (pos raw -ℤ pos cleaned) ⌝ }
 {
-    bits::bit(raw != cleaned)
+    if raw == cleaned {
+        return 0;
+    }
+    if raw < cleaned { 2 } else { 1 }
 }
 
 // Whether a run starts at a sample of one kind behind a sample of another.

@@ -28,8 +28,8 @@ class ScanFile(NamedTuple):
 
 
 class Counts(NamedTuple):
-    """What the report says about a scan file: samples, changed samples, spikes (runs of neighbouring changed samples),
-    the sum of the positive residues, and that of the negative ones with the sign dropped."""
+    """What the report says about a scan file: samples, changed samples, spikes (longest runs of neighbouring samples whose
+    residues are of one sign), the sum of the positive residues, and that of the negative ones with the sign dropped."""
 
     samples: int
     changed: int

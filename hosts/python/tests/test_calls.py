@@ -56,6 +56,11 @@ class Answers(unittest.TestCase):
         self.assertEqual(stackfilter.read(FILE), ScanFile(SCAN, MEDIAN))
         self.assertEqual(stackfilter.count(FILE), Counts(5, 1, 1, 80, 0))
 
+    def test_a_spike_up_beside_a_spike_down_is_two(self):
+        file = stackfilter.write(stackfilter.preset(10), [10, 10, 90, 0, 10, 10])
+        self.assertEqual(stackfilter.count(file), Counts(6, 2, 2, 80, 10))
+        self.assertEqual(stackfilter.line(file), "6 2 2 80 10\n")
+
     def test_a_file_has_a_line_whatever_it_holds(self):
         self.assertEqual(stackfilter.line(FILE), "5 1 1 80 0\n")
         self.assertEqual(stackfilter.line(b""), "refused 11 0\n")

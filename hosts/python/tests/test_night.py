@@ -85,7 +85,9 @@ class Lines(NightTest):
     def test_residues_of_both_signs(self):
         self.file("up", stackfilter.write([], [3, 0, 9]))
         self.file("down", stackfilter.write([0], [TOP, 0, TOP - 5]))
-        self.sheet(["up", "down"], "3 2 2 12 0", f"3 2 1 0 {TOP + 5}", f"2 0 0 0 0 0 6 4 3 12 {TOP + 5}")
+        self.file("both", stackfilter.write(MEDIAN, [10, 10, 90, 0, 10, 10]))
+        self.sheet(["up", "down", "both"], "3 2 2 12 0", f"3 2 1 0 {TOP + 5}", "6 2 2 80 10",
+                   f"3 0 0 0 0 0 12 6 5 92 {TOP + 15}")
 
     def test_the_largest_totals(self):
         self.file("all", stackfilter.write([], [TOP] * MOST_SAMPLES))

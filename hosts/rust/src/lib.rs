@@ -376,7 +376,8 @@ pub struct Counts {
     pub samples: u64,
     /// The samples that the filter changes.
     pub changed: u64,
-    /// The runs of neighbouring changed samples, each as long as it can be.
+    /// The runs of neighbouring samples whose residues are of one sign, each as long as it can be: one up beside one
+    /// down is two.
     pub spikes: u64,
     /// The total of the positive residues.
     pub above: u64,

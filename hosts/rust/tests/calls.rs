@@ -172,6 +172,11 @@ fn files_are_written_read_and_counted() {
     assert_eq!(line(&file), "5 1 1 80 0\n");
     assert_eq!((count(&[]), line(&[])), (Err(Refusal::Layout), "refused 11 0\n".to_string()));
 
+    // A spike up beside a spike down is two.
+    let two = write(&terms, &[10, 10, 90, 0, 10, 10]).unwrap();
+    assert_eq!(count(&two), Ok(Counts { samples: 6, changed: 2, spikes: 2, above: 80, below: 10 }));
+    assert_eq!(line(&two), "6 2 2 80 10\n");
+
     for lent in [0, LINE_BYTES - 1, LINE_BYTES + 1] {
         let mut out = vec![7; lent];
         assert_eq!(line_into(&file, &mut out), Err(Refusal::OutputLength { needed: LINE_BYTES }));

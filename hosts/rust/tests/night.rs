@@ -103,7 +103,11 @@ fn residues_of_both_signs_and_the_largest_totals() {
     let folder = Folder::new("totals");
     let up = folder.file("up", &write(&[], &[3, 0, 9]).unwrap());
     let down = folder.file("down", &write(&[0], &[u16::MAX, 0, u16::MAX - 5]).unwrap());
-    assert_sheet(&[up, down], &["3 2 2 12 0", "3 2 1 0 65540", "2 0 0 0 0 0 6 4 3 12 65540"]);
+    let both = folder.file("both", &write(&[24, 40, 48], &[10, 10, 90, 0, 10, 10]).unwrap());
+    assert_sheet(
+        &[up, down, both],
+        &["3 2 2 12 0", "3 2 1 0 65540", "6 2 2 80 10", "3 0 0 0 0 0 12 6 5 92 65550"],
+    );
 
     let all = folder.file("all", &write(&[], &[u16::MAX; MOST_SAMPLES]).unwrap());
     let sheet = night(vec![all; MOST_NAMES]).unwrap();

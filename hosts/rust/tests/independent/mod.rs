@@ -103,8 +103,11 @@ pub fn count(file: &[u8]) -> Result<[u64; 5], No> {
     let (samples, terms) = read_sound(file)?;
     let residues = residues(&samples, &forms::filter(&terms, &samples));
     let changed = residues.iter().filter(|r| **r != 0).count();
-    // Splitting at the unchanged samples leaves the spikes, and nothing between two neighbours.
-    let spikes = residues.split(|r| *r == 0).filter(|run| !run.is_empty()).count();
+    // Splitting at the unchanged samples leaves runs, and nothing between two neighbours; in a run each change of sign
+    // begins one spike more.
+    let turns = |run: &[i32]| run.windows(2).filter(|two| two[0].signum() != two[1].signum()).count();
+    let spikes: usize =
+        residues.split(|r| *r == 0).filter(|run| !run.is_empty()).map(|run| 1 + turns(run)).sum();
     let above: u64 = residues.iter().filter(|r| **r > 0).map(|r| *r as u64).sum();
     let below: u64 = residues.iter().filter(|r| **r < 0).map(|r| -*r as u64).sum();
     Ok([samples.len() as u64, changed as u64, spikes as u64, above, below])
