@@ -5,11 +5,12 @@
 The command is the program, behind its emulator where one is needed.
 
 The files are those that the groups `reports` and `lines` count (sound, damaged, cut off, empty, the
-longest and one byte longer), a large one, and an input without end, of which the program may read
-only as much as it needs to know that it is too long. Then what is around the line: inputs that
-cannot be read, outputs that cannot be written, arguments, a program that is stopped while it reads,
-reads that are interrupted and writes that are cut short (by interrupts.c, on x86-64 alone, where it
-can be loaded before the C library), and several at once that append to one file.
+longest and one byte longer), a large one, the two that README shows, and an input without end, of
+which the program may read only as much as it needs to know that it is too long. Then what is around
+the line: inputs that cannot be read, outputs that cannot be written, arguments, a program that is
+stopped while it reads, reads that are interrupted and writes that are cut short (by interrupts.c, on
+x86-64 alone, where it can be loaded before the C library), and several at once that append to one
+file.
 """
 
 import errno

@@ -21,9 +21,12 @@ below-test : (s : Bool) (m : ℕ) → ltb 0 (cond s 0 m) ≡ (not s && ltb 0 m)
 below-test true m = refl
 below-test false m = refl
 
--- of two residues, each by whether it isn't 0 and whether it is not below 0: the first has a kind, and not that of the second
-kinds-apart : (b s c t : Bool)
-    → (not (eqb (cond b (cond s 1 2) 0) 0) && not (eqb (cond b (cond s 1 2) 0) (cond c (cond t 1 2) 0)))
+-- a residue's kind by two tests: it isn't 0, and it is not below 0
+abbrev kindBy : Bool → Bool → ℕ
+kindBy b s = cond b (cond s 1 2) 0
+
+-- the first of two residues has a kind, and not that of the second
+kinds-apart : (b s c t : Bool) → (not (eqb (kindBy b s) 0) && not (eqb (kindBy b s) (kindBy c t)))
     ≡ (b && not ((s && b) && (t && c) || (not s && b) && (not t && c)))
 kinds-apart false s c t = refl
 kinds-apart true true false true = refl
@@ -45,7 +48,7 @@ has-kind : (r : ℤ) → (not (eqb (kindOf r) 0) && not (eqb (kindOf r) 0)) ≡ 
 unfolding kindOf isChange
 has-kind r = go (ltb 0 (natAbs r)) (nonNeg r)
   where
-    go : (b s : Bool) → (not (eqb (cond b (cond s 1 2) 0) 0) && not (eqb (cond b (cond s 1 2) 0) 0)) ≡ b
+    go : (b s : Bool) → (not (eqb (kindBy b s) 0) && not (eqb (kindBy b s) 0)) ≡ b
     go false s = refl
     go true true = refl
     go true false = refl
