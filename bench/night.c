@@ -102,7 +102,9 @@ static size_t read_back(const char *path, char *text) {
 /* The sheet's last line, from the counts. */
 static size_t last_line(char *text) {
     uint64_t sums[SF_COUNTS] = {0};
-    size_t end = (size_t)sprintf(text, "%d 0 0 0 0 0", FILES);
+    size_t end = (size_t)sprintf(text, "%d", FILES);
+    for (int i = SF_TOTAL_UNOPENED; i < SF_TOTAL_SAMPLES; i++)
+        end += (size_t)sprintf(text + end, " 0");
     for (int i = 0; i < FILES; i++)
         for (int c = 0; c < SF_COUNTS; c++)
             sums[c] += counts[i][c];

@@ -12,6 +12,7 @@ import time
 
 from programs import LONGEST_RUN, expect, run
 from rules import nights
+from rules.lines import fields_of_long
 from rules.nights import UNOPENED
 
 LONGEST_CHECK = 5 * LONGEST_RUN
@@ -42,6 +43,13 @@ class Folder:
         with open(self.at(name), "wb") as file:
             file.write(bytes(contents))
         self.outcomes[name] = outcome_of(bytes(contents))
+        return name
+
+    def put_long(self, name, length):
+        """A file of so many bytes of 0, which take no room."""
+        self.put(name, b"")
+        os.truncate(self.at(name), length)
+        self.outcomes[name] = fields_of_long(length)
         return name
 
     def alias(self, other, name):

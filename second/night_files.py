@@ -6,7 +6,8 @@ The command is the program, behind its emulator where one is needed.
 
 The nights: every kind of file that the group `reports` has, doubles, no names, 250 and 251 of them, names
 of all bytes, bad lines; what is no regular file, links, files that may not be opened or cannot be read,
-files that come and go meanwhile, files over the limit; nights by chance. Then what is around the sheet:
+files that come and go meanwhile or change their length, files over the limit up to one that nobody could
+read whole; nights by chance. Then what is around the sheet:
 lists that come in parts, stay open, are very long or cannot be read; outputs that cannot be written; one
 write to a line; arguments; a small stack and few descriptors. What is opened, and that it is closed
 before the next, is seen by way of inotify.
@@ -29,17 +30,20 @@ import time
 from chance import Chance
 from folders import Watch, check_in_a_folder, in_turn, listed
 from groups import reports
-from groups.files import WORKED_FILE
 from groups.forms import LONGEST_FORM
-from programs import LONGEST_RUN, check_said, expect, interrupts, run
+from programs import (LONG, LONGEST_RUN, SYSTEM_FILE, WORKED, changing, check_said, expect, interrupts, lengthen,
+                      lines_of_changing, run, system_file_length)
 from rules.files import file_of
 from rules.limits import LONGEST_FILE, LONGEST_NAME, MOST_NAMES, MOST_SAMPLES, TOP
+from rules.lines import fields_of_long
 from rules.lists import lines_of
+from rules.nights import totals_of
 
 NOBODY = 65534
 STACK = 512 * 1024
 MEGABYTE = 1_000_000
-WORKED = bytes(WORKED_FILE)
+# As many seconds a file is changed.
+A_WHILE = 2
 
 
 # ---- files of every kind
@@ -56,14 +60,11 @@ def check_files(folder):
             b"too many samples": file_of([16], [1] * (MOST_SAMPLES + 1)),
             b"one byte over": [0] + file_of(LONGEST_FORM, [1] * MOST_SAMPLES),
             b"one byte more": file_of([], [0] * MOST_SAMPLES) + [0],
+            b"no file, as long as one may be": bytes(LONGEST_FILE),
             b"a megabyte": bytes(MEGABYTE)}.items():
         names.append(folder.put(name, bytes(file)))
-    # whatever its size: a file of 5 GB with nothing in it is as one that is a byte too long
-    folder.put(b"5 GB", bytes(LONGEST_FILE + 1))
-    os.truncate(folder.at(b"5 GB"), 5 * 2 ** 30)
-    names.append(b"5 GB")
     expect("what is refused", {fields[1] for fields in folder.outcomes.values() if fields[0] == "refused"},
-           {7, 9, 11})
+           {7, 9, 15, 16, 17, 18})
     for start in range(0, len(names), MOST_NAMES):
         folder.check("files from %d" % start, listed(*names[start:start + MOST_NAMES]))
     text = listed(*reversed(names[-MOST_NAMES:]))
@@ -71,6 +72,26 @@ def check_files(folder):
         file.write(text)
         file.seek(0)
         folder.check("a list in a file", text, stdin=file)
+
+
+def check_long_files(folder):
+    """Their lengths are printed, and nothing is read to tell them, whatever they are."""
+    sound = folder.put(b"sound", WORKED)
+    names = [folder.put_long(b"%d bytes" % length, length)
+             for length in (LONGEST_FILE + 1, LONGEST_FILE + 2, 65_536, MEGABYTE, 2 ** 31, 2 ** 32 - 1, 2 ** 32,
+                            2 ** 32 + len(WORKED), LONG)]
+    names.append(folder.put(b"longest", b""))
+    folder.outcomes[b"longest"] = fields_of_long(lengthen(folder.at(b"longest")))
+    text = listed(sound, *names, sound, *reversed(names), b"none")
+    expect("how many are too long", folder.sheet(text).splitlines()[-1], b"2 1 0 0 0 20 0 0 0 10 2 2 160 0")
+    folder.check("long files", text)
+    folder.check("250 long files", listed(*names * 25))
+    # one whose end the system does not tell is read to it
+    length = system_file_length()
+    if length > LONGEST_FILE:
+        name = os.fsencode(SYSTEM_FILE)
+        folder.outcomes[name] = fields_of_long(length)
+        folder.check("a file of the system's own", listed(name, sound, name))
 
 
 def check_doubles(folder):
@@ -272,6 +293,26 @@ def check_meanwhile(folder):
     expect("files that come and go", (sheet, said), (folder.sheet(text), b""))
 
 
+def outcome_in(line):
+    """The outcome from its line."""
+    return tuple(int(word) if word.isdigit() else word for word in line.decode().split())
+
+
+def check_changing(folder):
+    """Files that are cut and lengthened while they are read: each line is one of a file that there could
+    have been, and the totals are those of the lines."""
+    possible, other = lines_of_changing(), folder.put(b"other", file_of([16], [1, 2, 3]))
+    with changing(folder.at(b"changing")):
+        end = time.monotonic() + A_WHILE
+        while time.monotonic() < end:
+            sheet, said = run(folder.command, input=listed(b"changing", other) * (MOST_NAMES // 2), cwd=folder.path)
+            *lines, last = sheet.splitlines(keepends=True)
+            expect("what is said of files that change", said, b"")
+            expect("the lines of files that change", [line for line in lines[::2] if line not in possible], [])
+            expect("the lines between them", lines[1::2], [b"3 0 0 0 0\n"] * (MOST_NAMES // 2))
+            expect("the totals of files that change", outcome_in(last), totals_of([outcome_in(line) for line in lines]))
+
+
 # ---- what is opened, and when
 
 def check_opened(folder):
@@ -462,7 +503,8 @@ def check_interrupted(folder):
     """Reads that are interrupted and writes that are cut short."""
     a = folder.put(b"a", WORKED)
     with interrupts() as settings:
-        for text in (listed(a, b"none", a), b"", b"a\n\n", listed(*[a] * (MOST_NAMES + 1))):
+        long = folder.put_long(b"long", LONG)
+        for text in (listed(a, long, b"none", a), b"", b"a\n\n", listed(*[a] * (MOST_NAMES + 1))):
             folder.check("interrupted reads and short writes", text, env=settings)
 
 
@@ -505,8 +547,8 @@ def main(command):
     def check(checked, *more):
         check_in_a_folder(command, checked, *more)
 
-    for checked in (check_files, check_doubles, check_lists, check_names, check_the_longest_list, check_kinds,
-                    check_unread_files, check_forbidden, check_meanwhile, check_opened):
+    for checked in (check_files, check_long_files, check_doubles, check_lists, check_names, check_the_longest_list,
+                    check_kinds, check_unread_files, check_forbidden, check_meanwhile, check_changing, check_opened):
         check(checked)
     check(check_by_chance, Chance(11))
     print("the night program printed the right sheets")

@@ -5,12 +5,13 @@
 The command is the program, behind its emulator where one is needed.
 
 The files are those that the groups `reports` and `lines` count (sound, damaged, cut off, empty, the
-longest and one byte longer), a large one, the two that README shows, and an input without end, of
-which the program may read only as much as it needs to know that it is too long. Then what is around
-the line: inputs that cannot be read, outputs that cannot be written, arguments, a program that is
-stopped while it reads, reads that are interrupted and writes that are cut short (by interrupts.c, on
-x86-64 alone, where it can be loaded before the C library), and several at once that append to one
-file.
+longest and one byte longer), a large one and the two that README shows. Inputs that are too long have
+a length that is printed: pipes are read to their end, however long and however late that is; of a
+regular file, which may begin at any offset, the system knows the end, so one that nobody could read
+whole is told at once; one may be cut and lengthened meanwhile. Then what is around the line: inputs
+that cannot be read, outputs that cannot be written, arguments, a program that is stopped while it
+reads, reads that are interrupted and writes that are cut short (by interrupts.c, on x86-64 alone,
+where it can be loaded before the C library), and several at once that append to one file.
 """
 
 import errno
@@ -25,14 +26,16 @@ import time
 
 from chance import Chance
 from groups import lines, reports
-from groups.files import WORKED_FILE
-from programs import check_said, expect, interrupts, run
+from programs import (LONG, LONGEST_RUN, SYSTEM_FILE, WORKED, changing, check_said, expect, interrupts, lengthen,
+                      lines_of_changing, long_line, run, system_file_length)
+from rules.limits import LONGEST_FILE
 from rules.lines import line_of
 
 CRATES = pathlib.Path(__file__).resolve().parent.parent / "crates"
-WORKED = bytes(WORKED_FILE)
-WORKED_LINE = line_of(WORKED_FILE).encode()
+WORKED_LINE = line_of(WORKED).encode()
 AT_ONCE, EACH = 4, 25
+# As many seconds a file is changed, and an input without end is read.
+A_WHILE = 2
 
 
 # ---- a run, and what it is to print
@@ -70,10 +73,79 @@ def check_stored_files(command):
             expect("the file %s" % name, run(command, stdin=file), (line, b""))
 
 
+# ---- inputs that are too long
+
+def check_long_pipes(command):
+    """They are read to their end; of one that is longer than 32 bits can say, too."""
+    for length in (LONGEST_FILE + 1, LONGEST_FILE + 2, 65_536, 1_000_000, LONG):
+        zeros = ["head", "-c", str(length), "/dev/zero"]
+        with subprocess.Popen(zeros, stdout=subprocess.PIPE) as feeding:
+            expect("a pipe of %d bytes" % length, run(command, stdin=feeding.stdout), (long_line(length), b""))
+
+
+def start(command, **streams):
+    return subprocess.Popen(command, stdout=subprocess.PIPE, stderr=subprocess.PIPE, **streams)
+
+
+def check_open_pipe(command):
+    """No line is printed before the end, however long that is in coming."""
+    with start(command, stdin=subprocess.PIPE) as program:
+        for part in (LONGEST_FILE, 1, 6_967, 10):
+            program.stdin.write(bytes(part))
+            program.stdin.flush()
+            time.sleep(0.2)
+            expect("a program whose input stays open", program.poll(), None)
+        expect("a pipe that stays open", program.communicate(timeout=LONGEST_RUN), (b"refused 15 40010\n", b""))
+
+
 def check_endless_input(command):
-    """The program ends by itself, and its line is that of a file that is too long."""
-    with open("/dev/zero", "rb") as zeros:
-        expect("an endless input", run(command, stdin=zeros), (b"refused 11 0\n", b""))
+    """The program reads on: a device tells no end."""
+    with open("/dev/zero", "rb") as zeros, start(command, stdin=zeros) as program:
+        time.sleep(A_WHILE)
+        expect("a program whose input has no end", program.poll(), None)
+        program.kill()
+        expect("an endless input", program.communicate(timeout=LONGEST_RUN), (b"", b""))
+
+
+def check_offsets(command):
+    """Of a regular file the bytes from its place on are the input."""
+    with tempfile.TemporaryFile() as file:
+        def check(what, at, line):
+            os.lseek(file.fileno(), at, os.SEEK_SET)
+            expect("%s, from %d on" % (what, at), run(command, stdin=file), (line, b""))
+
+        contents = bytes(50_000) + WORKED
+        os.write(file.fileno(), contents)
+        size = len(contents)
+        for at in (0, 1, size - LONGEST_FILE - 2, size - LONGEST_FILE - 1, size - LONGEST_FILE, 50_000 - 2, 50_000,
+                   50_001, size - 12, size - 11, size, size + 1, LONG):
+            check("a file", at, line_of(contents[at:]).encode())
+        os.truncate(file.fileno(), LONG)
+        for at in (0, 1, 1_000_000_000, LONG - LONGEST_FILE - 1):
+            check("a long file", at, long_line(LONG - at))
+        length = lengthen(file.fileno())
+        check("a file that nobody could read whole", 0, long_line(length))
+        check("a file that nobody could read whole", 1, long_line(length - 1))
+
+
+def check_system_file(command):
+    """A file whose end the system does not tell is read to it."""
+    length = system_file_length()
+    if length > LONGEST_FILE:
+        with open(SYSTEM_FILE, "rb") as file:
+            expect(SYSTEM_FILE, run(command, stdin=file), (long_line(length), b""))
+
+
+def check_changing(command):
+    """Whatever is met, the line is one of a file that there could have been, and one there is."""
+    possible = lines_of_changing()
+    with tempfile.NamedTemporaryFile() as named, changing(named.name):
+        end = time.monotonic() + A_WHILE
+        while time.monotonic() < end:
+            with open(named.name, "rb") as file:
+                line, said = run(command, stdin=file)
+            if line not in possible or said:
+                sys.exit("a file that is cut and lengthened: %r, %r" % (line, said))
 
 
 # ---- inputs that cannot be read
@@ -86,8 +158,9 @@ def check_unread_inputs(command):
     reads, writes = os.pipe()
     os.set_blocking(reads, False)
     check_unread(command, "a pipe with nothing in it yet", errno.EAGAIN, stdin=reads)
-    os.write(writes, WORKED[:7])
-    check_unread(command, "a pipe with a part of a file in it", errno.EAGAIN, stdin=reads)
+    for length in (7, LONGEST_FILE, LONGEST_FILE + 1, 40_000):
+        os.write(writes, bytes(length))
+        check_unread(command, "a pipe with %d bytes in it and no end" % length, errno.EAGAIN, stdin=reads)
     os.close(reads)
     os.close(writes)
 
@@ -128,8 +201,9 @@ def check_stopped(command):
 
 def check_interrupted(command):
     with interrupts() as settings:
-        expect("interrupted reads and short writes", run(command, input=WORKED, env=settings),
-               (WORKED_LINE, b""))
+        for file in (WORKED, bytes(40_000)):
+            expect("interrupted reads and short writes", run(command, input=file, env=settings),
+                   (line_of(file).encode(), b""))
 
 
 # ---- several at once
@@ -157,8 +231,14 @@ def main(command):
     for file in files:
         check_file(command, file)
     check_stored_files(command)
+    print("the report program printed the right line for %d files" % (len(files) + 2))
+    check_long_pipes(command)
+    check_open_pipe(command)
     check_endless_input(command)
-    print("the report program printed the right line for %d files" % (len(files) + 3))
+    check_offsets(command)
+    check_system_file(command)
+    check_changing(command)
+    print("it says how long an input is that is too long, and reads no more of a file than that needs")
     check_unread_inputs(command)
     check_unwritten_outputs(command)
     check_arguments(command)

@@ -20,6 +20,9 @@ from vectors import CRATES, GROUPS
 from wire import call, checksum, line, record
 
 
+in_hex = bytes.fromhex
+
+
 def cleaned(terms, scan):
     out = [0] * len(scan)
     scans.clean(terms, scan, out)
@@ -103,12 +106,12 @@ class ScopeDocument(Case):
         self.assertEqual(form(signal, opening(48), signal, smaller), form(signal, opening(48)))
 
     def test_report(self):
-        file = bytes.fromhex("0A 00 0A 00 5A 00 0A 00 0A 00 18 00 28 00 30 00"
-                             "1C 00 00 00 12 00 00 00 03 00 53 46")
+        file = in_hex("0A 00 0A 00 5A 00 0A 00 0A 00 18 00 28 00 30 00"
+                      "1C 00 00 00 12 00 00 00 03 00 53 46")
         self.assertEqual(files.count(file), (5, 1, 1, 80, 0))
         self.assertEqual(bytes(files.file_of([24, 40, 48], [10, 10, 90, 10, 10])), file)
         self.assertEqual(lines.line_of(file), "5 1 1 80 0\n")
-        self.assertEqual(lines.line_of(file[1:]), "refused 11 0\n")
+        self.assertEqual(lines.line_of(file[1:]), "refused 18 15\n")
 
 
 class Readings(Case):
@@ -167,8 +170,8 @@ class Readings(Case):
         self.refused(9, len(too_long), files.read, files.file_of([], too_long), [], [])
         in_all = MOST_SAMPLES + MOST_TERMS
         self.refused(9, in_all, files.count, files.file_of([], [0] * in_all))
-        self.refused(11, 0, files.count, files.file_of([], [0] * (in_all + 1)))
-        self.refused(11, 0, files.count, [])
+        self.refused(15, 33034, files.count, files.file_of([], [0] * (in_all + 1)))
+        self.refused(15, 0, files.count, [])
 
     def test_refused_calls_write_nothing_and_accepted_ones_no_more(self):
         samples, terms = [1] * 3, [2] * 3
@@ -187,6 +190,85 @@ class Readings(Case):
             self.assertEqual(files.spikes(residues), number)
 
 
+class Layout(Case):
+    """Request 3, by hand: what is wrong with the file, and where."""
+
+    # Two samples, a term, the two distances, the number of terms and the mark; the same with no term.
+    GOOD = in_hex("05 00 06 00" "10 00" "12 00 00 00" "0E 00 00 00" "01 00" "53 46")
+    BARE = in_hex("05 00 06 00" "10 00 00 00" "0C 00 00 00" "00 00" "53 46")
+
+    def refused_file(self, number, place, file):
+        """All calls say the same."""
+        self.refused(number, place, files.count, file)
+        self.refused(number, place, files.read, file, [0] * 9, [0] * 9)
+        self.assertEqual(lines.line_of(file), "refused %d %d\n" % (number, place))
+
+    def put(self, file, place, text):
+        """The file with other bytes from a place on."""
+        part = in_hex(text)
+        return file[:place] + part + file[place + len(part):]
+
+    def test_good(self):
+        self.assertEqual(files.opened(self.GOOD), ([5, 6], [16]))
+        self.assertEqual(files.opened(self.BARE), ([5, 6], []))
+
+    def test_length(self):
+        for length in range(12):
+            self.refused_file(15, length, bytes(length))
+            self.refused_file(15, length, self.GOOD[18 - length:])
+        self.refused_file(16, 10, bytes(12))
+        self.refused_file(16, 33030, bytes(33032))
+        for length in (33033, 33034, 65536, 131072 + 18, 1_000_000):
+            self.refused_file(15, length, bytes(length))
+            self.refused_file(15, length, bytes(length - 18) + self.GOOD)
+        for length in (33033, 5_000_000_000, 2 ** 63 - 1):
+            self.assertEqual(lines.fields_of_long(length), ("refused", 15, length))
+
+    def test_mark(self):
+        for mark in ("46 53", "53 52", "53 47", "52 46", "00 00", "46 46", "53 53"):
+            self.refused_file(16, 16, self.put(self.GOOD, 16, mark))
+            self.refused_file(16, 14, self.put(self.BARE, 14, mark))
+            self.refused_file(16, 10, in_hex("0C 00 00 00 0C 00 00 00 00 00" + mark))
+
+    def test_term_distance(self):
+        for distance in ("0D", "0F", "10", "0C", "00", "8E", "0E 01", "0E 80", "0E 00 01", "0E 00 80",
+                         "0E 00 00 01", "0E 00 00 80", "FE FF FF FF", "FF FF FF FF", "F2 FF FF FF"):
+            self.refused_file(17, 10, self.put(self.GOOD, 10, distance))
+        self.refused_file(17, 8, self.put(self.BARE, 8, "0E"))
+        self.refused_file(17, 4, in_hex("0C 00 00 00 FF FF FF FF 00 00 53 46"))
+
+    def test_number_of_terms(self):
+        """A wrong one shows where the term distance stands."""
+        for terms in ("00", "02", "81", "01 01", "01 80", "FF FF"):
+            self.refused_file(17, 10, self.put(self.GOOD, 14, terms))
+        self.refused_file(17, 8, self.put(self.BARE, 12, "01"))
+        # of 12 + 2 x 65,530 the lower two bytes are 0, of 12 + 2 x 32,768 they are 12
+        self.refused_file(17, 4, in_hex("0C 00 00 00 00 00 00 00 FA FF 53 46"))
+        self.refused_file(17, 4, in_hex("0C 00 00 00 0C 00 00 00 00 80 53 46"))
+
+    def test_sample_distance(self):
+        # not the length: less, more, in an upper byte, and about 2^31 and 2^32
+        for distance in ("10", "14", "11", "13", "0E", "00", "12 01", "12 00 01", "12 00 00 01", "12 00 00 80",
+                         "FF FF FF 7F", "00 00 00 80", "FE FF FF FF", "FF FF FF FF", "EE FF FF FF"):
+            self.refused_file(18, 6, self.put(self.GOOD, 6, distance))
+        # the length, but below the term distance, by an even number and by an odd one
+        self.refused_file(18, 0, in_hex("0C 00 00 00 0E 00 00 00 01 00 53 46"))
+        self.refused_file(18, 0, in_hex("0C 00 00 00 0A 00 02 00 FF FF 53 46"))
+        self.refused_file(18, 1, in_hex("00 0D 00 00 00 0E 00 00 00 01 00 53 46"))
+        # the length, but odd beside it
+        self.refused_file(18, 1, in_hex("00 0D 00 00 00 0C 00 00 00 00 00 53 46"))
+        self.refused_file(18, 5, in_hex("05 00 06 10 00 11 00 00 00 0E 00 00 00 01 00 53 46"))
+
+    def test_order(self):
+        """15, 16, 17, 18, then 7, 9: each is put right, and the next shows."""
+        self.refused_file(15, 11, in_hex("FF FF FF FF FF FF FF FF FF FF FF"))
+        self.refused_file(16, 12, in_hex("FF FF FF FF FF FF FF FF FF FF FF FF FF FF"))
+        self.refused_file(17, 6, in_hex("FF FF FF FF FF FF FF FF FF FF FF FF 53 46"))
+        self.refused_file(18, 2, in_hex("FF FF FF FF FF FF 0E 00 00 00 01 00 53 46"))
+        self.refused_file(7, 0, in_hex("FF FF 0E 00 00 00 0E 00 00 00 01 00 53 46"))
+        self.refused_file(9, 0, in_hex("FF 01 0E 00 00 00 0E 00 00 00 01 00 53 46"))
+
+
 class NightSheet(Case):
     """Request 1, by hand."""
 
@@ -197,7 +279,10 @@ class NightSheet(Case):
         b"down": files.file_of([0], [65534]),
         b"seven": files.file_of([24, 16], [1]),
         b"nine": files.file_of([16], []),
-        b"eleven": [],
+        b"fifteen": [],
+        b"sixteen": [0] * 12,
+        b"seventeen": in_hex("0C 00 00 00 0C 00 00 00 01 00 53 46"),
+        b"eighteen": in_hex("00 00 0C 00 00 00 0C 00 00 00 00 00 53 46"),
         b" a b\r": files.file_of([16], [1]),
     }
 
@@ -263,23 +348,30 @@ class NightSheet(Case):
         return nights.sheet(text, lambda name: nights.outcome_of(self.FILES.get(name)))
 
     def test_sheets(self):
-        self.assertEqual(self.sheet(b""), "0 0 0 0 0 0 0 0 0 0 0\n")
+        self.assertEqual(self.sheet(b""), "0 0 0 0 0 0 0 0 0 0 0 0 0 0\n")
         self.assertEqual(self.sheet(b"\n"), "refused 19 1\n")
         self.assertEqual(self.sheet(b"worked\n\n"), "refused 19 2\n")
         self.assertEqual(self.sheet(b"worked\n" * 251), "refused 20 250\n")
-        self.assertEqual(self.sheet(b"worked"), "5 1 1 80 0\n1 0 0 0 0 0 5 1 1 80 0\n")
+        self.assertEqual(self.sheet(b"worked"), "5 1 1 80 0\n1 0 0 0 0 0 0 0 0 5 1 1 80 0\n")
         self.assertEqual(
-            self.sheet(b"worked\nnone\nseven\nnine\neleven\ndown\n a b\r\ntwo\nworked\nworked\r\n"),
-            "5 1 1 80 0\nunopened\nrefused 7 1\nrefused 9 0\nrefused 11 0\n1 1 1 0 1\n"
+            self.sheet(b"worked\nnone\nseven\nnine\nfifteen\ndown\n a b\r\ntwo\nworked\nworked\r\n"),
+            "5 1 1 80 0\nunopened\nrefused 7 1\nrefused 9 0\nrefused 15 0\n1 1 1 0 1\n"
             "1 0 0 0 0\n6 2 2 80 10\n5 1 1 80 0\nunopened\n"
-            "5 2 1 0 1 1 18 5 5 240 11\n")
+            "5 2 1 0 1 1 0 0 0 18 5 5 240 11\n")
+        # request 3 counts the four apart
+        self.assertEqual(
+            self.sheet(b"eighteen\nseventeen\nfifteen\nsixteen\neighteen\nworked\neighteen\nseventeen\n"
+                       b"sixteen\neighteen\nsixteen"),
+            "refused 18 2\nrefused 17 4\nrefused 15 0\nrefused 16 10\nrefused 18 2\n5 1 1 80 0\n"
+            "refused 18 2\nrefused 17 4\nrefused 16 10\nrefused 18 2\nrefused 16 10\n"
+            "1 0 0 0 0 1 3 2 4 5 1 1 80 0\n")
 
     def test_a_name_with_a_0_byte_is_not_looked_for(self):
         def found(name):
             self.assertNotIn(0, name)
             return nights.outcome_of(self.FILES[b"worked"])
         self.assertEqual(nights.sheet(b"a\0\n\0\na", found),
-                         "unopened\nunopened\n5 1 1 80 0\n1 2 0 0 0 0 5 1 1 80 0\n")
+                         "unopened\nunopened\n5 1 1 80 0\n1 2 0 0 0 0 0 0 0 5 1 1 80 0\n")
 
     def test_a_refused_list_opens_nothing(self):
         for text in (b"a\n\n", b"a\n" * 251):
@@ -290,21 +382,23 @@ class NightSheet(Case):
         self.assertEqual(files.count(files.file_of([], [TOP] * MOST_SAMPLES)), up)
         self.assertEqual(files.count(files.file_of([0], [0] * MOST_SAMPLES)), down)
         self.assertEqual(nights.totals_of([up] * 250),
-                         (250, 0, 0, 0, 0, 0, 4096000, 4096000, 250, 268431360000, 0))
+                         (250, *[0] * 8, 4096000, 4096000, 250, 268431360000, 0))
         self.assertEqual(nights.totals_of([down] * 250)[-2:], (0, 268431360000))
 
     def test_totals(self):
-        nothing = (0,) * 11
+        nothing = (0,) * 14
         self.assertEqual(nights.totals_of([]), nothing)
-        self.assertEqual(nights.totals_of([("unopened",)]), (0, 1) + (0,) * 9)
-        for place, number in enumerate((7, 8, 9, 11), 2):
-            expected = [0] * 11
+        self.assertEqual(nights.totals_of([("unopened",)]), (0, 1) + (0,) * 12)
+        # 11 is not used again
+        self.assertEqual(nights.totals_of([("refused", 11, 0)]), nothing)
+        for place, number in enumerate((7, 8, 9, 15, 16, 17, 18), 2):
+            expected = [0] * 14
             expected[place] = 2
             self.assertEqual(nights.totals_of([("refused", number, 5)] * 2), tuple(expected))
         self.assertEqual(nights.totals_of([(1, 2, 3, 4, 5), (10, 20, 30, 40, 50)]),
-                         (2, 0, 0, 0, 0, 0, 11, 22, 33, 44, 55))
-        self.assertEqual(nights.add([2 ** 64 - 1] * 11, [("unopened",), (1, 2, 3, 4, 5)]),
-                         (0, 0, *[2 ** 64 - 1] * 4, 0, 1, 2, 3, 4))
+                         (2, *[0] * 8, 11, 22, 33, 44, 55))
+        self.assertEqual(nights.add([2 ** 64 - 1] * 14, [("unopened",), (1, 2, 3, 4, 5)]),
+                         (0, 0, *[2 ** 64 - 1] * 7, 0, 1, 2, 3, 4))
 
     def test_lines_lent(self):
         lent = [0] * 128
@@ -312,21 +406,24 @@ class NightSheet(Case):
         self.assertEqual(bytes(lent[:10]), b"unopened\n\0")
         self.assertEqual(lines.refused_line((19, 2), lent), 13)
         self.assertEqual(bytes(lent[:14]), b"refused 19 2\n\0")
-        self.assertEqual(lines.totals_line([2 ** 64 - 1] * 11, [0] * 512), 231)
+        self.assertEqual(lines.totals_line([2 ** 64 - 1] * 14, [0] * 512), 294)
         self.refused(10, 128, lines.outcome_line, ("unopened",), [0] * 129)
         self.refused(10, 128, lines.refused_line, (19, 2), [0] * 127)
-        self.refused(10, 512, lines.totals_line, [0] * 11, [0] * 511)
+        self.refused(10, 512, lines.totals_line, [0] * 14, [0] * 511)
 
     def test_lines_that_are_added(self):
-        lent, totals, worked = [0] * 128, [1] * 11, self.FILES[b"worked"]
+        lent, totals, worked = [0] * 128, [1] * 14, self.FILES[b"worked"]
         self.assertEqual(nights.night_line(worked, totals, lent), 11)
         self.assertEqual(bytes(lent[:12]), b"5 1 1 80 0\n\0")
-        self.assertEqual(totals, [2, 1, 1, 1, 1, 1, 6, 2, 2, 81, 1])
+        self.assertEqual(totals, [2, *[1] * 8, 6, 2, 2, 81, 1])
         self.assertEqual(nights.night_unopened(totals, lent), 9)
-        self.assertEqual(totals, [2, 2, 1, 1, 1, 1, 6, 2, 2, 81, 1])
+        self.assertEqual(totals, [2, 2, *[1] * 7, 6, 2, 2, 81, 1])
         self.refused(10, 128, nights.night_line, worked, totals, [0] * 127)
         self.refused(10, 128, nights.night_unopened, totals, [])
-        self.assertEqual(totals, [2, 2, 1, 1, 1, 1, 6, 2, 2, 81, 1])
+        self.assertEqual(totals, [2, 2, *[1] * 7, 6, 2, 2, 81, 1])
+        self.assertEqual(nights.night_line(self.FILES[b"eighteen"], totals, lent), 13)
+        self.assertEqual(bytes(lent[:14]), b"refused 18 2\n\0")
+        self.assertEqual(totals, [2, 2, *[1] * 6, 2, 6, 2, 2, 81, 1])
 
 
 class Papers(Case):
@@ -484,7 +581,7 @@ class Vectors(Case):
         self.assertEqual(record(call("refused_line", (19, 2), 128)).hex(" "),
                          "05 00 00 00 00 00 00 00 00 00 80 00 00 00 "
                          "13 00 00 00 00 00 00 00 02 00 00 00 00 00 00 00")
-        numbers = record(call("add", [0] * 11, [("unopened",), ("refused", 9, 4), (1, 2, 3, 4, 5)]))[10 + 88:]
+        numbers = record(call("add", [0] * 14, [("unopened",), ("refused", 9, 4), (1, 2, 3, 4, 5)]))[10 + 112:]
         self.assertEqual([int.from_bytes(numbers[i:i + 8], "little") for i in range(0, len(numbers), 8)],
                          [3, 0, 0, 0, 0, 0, 0, 2, 9, 4, 0, 0, 0, 1, 1, 2, 3, 4, 5])
 
@@ -495,9 +592,15 @@ class Vectors(Case):
         self.assertEqual(line(call("judge", [(b"a", 3)], [2])), "judge 0 0 2")
         self.assertEqual(line(call("line_end", [(b"ab", 2)], 1)), "line_end 0 4")
         self.assertEqual(line(call("refused_line", (19, 2), 3)), "refused_line 10 128 : 171 171 171")
-        self.assertEqual(line(call("totals_line", [1] * 11, 512)), "totals_line 0 22 : #%d 1%s" % (
-            checksum([*b"1 1 1 1 1 1 1 1 1 1 1\n", *[171] * 490]), " 1" * 10))
-        self.assertEqual(line(call("add", range(11), [("unopened",)])), "add 0 0 2 2 3 4 5 6 7 8 9 10")
+        self.assertEqual(line(call("totals_line", [1] * 14, 512)), "totals_line 0 28 : #%d 1%s" % (
+            checksum([*b"1 1 1 1 1 1 1 1 1 1 1 1 1 1\n", *[171] * 484]), " 1" * 13))
+        self.assertEqual(line(call("add", range(14), [("unopened",)])),
+                         "add 0 0 2 2 3 4 5 6 7 8 9 10 11 12 13")
+
+    def test_sheet_line(self):
+        self.assertEqual(line(call("sheet", [(b"a\n", 3)])), "sheet 3 unopened / 0 3%s" % (" 0" * 12))
+        self.assertEqual(line(call("sheet_of_length", 40000)),
+                         "sheet_of_length refused 15 40000 / 0 0 0 0 0 1%s" % (" 0" * 8))
 
     def test_checksum(self):
         self.assertEqual(checksum([0, -7]), 31 + 2 ** 32 - 7 + 1)
@@ -507,7 +610,7 @@ class Vectors(Case):
         "check": {0, 7}, "clean": {0, 7, 9, 10}, "residue": {0, 7, 9, 10}, "root": {0, 7, 9},
         "table_to_form": {0, 6, 12, 13}, "form_to_table": {0, 7, 13}, "preset": {0, 6, 14},
         "run_recipe": {0, 1, 2, 3, 4, 5, 9, 10}, "compile": {0, 1, 2, 3, 4, 5, 6},
-        "write": {0, 7, 9, 10}, "read": {0, 6, 7, 9, 10, 11}, "count": {0, 7, 9, 11},
+        "write": {0, 7, 9, 10}, "read": {0, 6, 7, 9, 10, 15, 16, 17, 18}, "count": {0, 7, 9, 15, 16, 17, 18},
         "line": {0, 10},
         "check_list": {0, 19, 20}, "judge": {0, 19, 20}, "line_end": {0}, "outcome_line": {0, 10},
         "refused_line": {0, 10}, "totals_line": {0, 10}, "add": {0},

@@ -46,6 +46,7 @@ KINDS = {
     "night_unopened": Kind("C", None, nights.night_unopened, [LENT_TOTALS, LENT_BYTES]),
     # What the program `night` prints, for its must-fail edits.
     "sheet": Kind("night", None, nights.sheet_of_none, [TEXT]),
+    "sheet_of_length": Kind("night", None, nights.sheet_of_length, [NUMBER]),
 }
 
 Call = namedtuple("Call", "name arguments")
@@ -174,15 +175,17 @@ def written_line(number, values, lent):
     return " " + bytes(lent[0][:values[0] - 1]).decode() if number == 0 else ""
 
 
-def shown_sheet(text):
+def shown_sheet(a_call):
     """The lines of a sheet with / between them; `250 unopened` is so many of these lines in turn."""
+    text = KINDS[a_call.name].rule(*(lend(*argument) for argument in arguments_of(a_call)))
     runs = [(words, len(list(run))) for words, run in groupby(text.splitlines())]
-    return "sheet " + " / ".join(words if times == 1 else "%d %s" % (times, words) for words, times in runs)
+    return a_call.name + " " + " / ".join(
+        words if times == 1 else "%d %s" % (times, words) for words, times in runs)
 
 
 def line(a_call):
-    if a_call.name == "sheet":
-        return shown_sheet(nights.sheet_of_none(joined(*a_call.arguments)))
+    if KINDS[a_call.name].program == "night":
+        return shown_sheet(a_call)
     number, values, lent = outcome(a_call)
     words = " ".join(map(str, [a_call.name, number, *values]))
     text = words + "".join(" :" + shown(slice_) for slice_ in lent)

@@ -14,13 +14,14 @@ crates/nightcases/stdout has it) and the line that the edited code gives. More c
 The arguments stand in the order of wire.py, and a lent slice is its length. In a list of numbers
 255*64 is 255 sixty-four times, and (97 10)*250 is 97 10 two hundred and fifty times; a recipe is its
 steps: signal, rank 2 56, larger; an outcome is its line: 5 1 1 80 0, unopened, refused 9 0. A sheet
-of the program `night` has / between its lines, and 250 unopened is so many lines in turn. An edit of a
-definition says "asks" in place of "gives": the line that the definition would ask for.
+of the program `night` has / between its lines, and 250 unopened is so many lines in turn; sheet_of_length
+40000 is that of one file, of so many bytes. An edit of a definition says "asks" in place of "gives": the
+line that the definition would ask for.
 
 The calls of `cases` go through the C interface, so that its own edits are shown in the same way: a
 small program of Rattle makes them. Those of `nightcases` and `night` are made by these. `rt try` runs
-them with no proof, interpreted where it can, and compiled. An edited definition changes no code, so only its right line is
-run. --run takes some seconds an edit; the gate has --check.
+them with no proof, interpreted where it can, and compiled. An edited definition changes no code, so only
+its right line is run. --run takes some seconds an edit; the gate has --check.
 """
 
 import concurrent.futures
@@ -154,8 +155,8 @@ PRINTS = {LENT_BYTES: "bytes", LENT_WORDS: "words", LENT_RESIDUES: "residues"}
 
 
 def slice_of(kind, elements):
-    if not elements:
-        return "&[0%s; 0]" % TYPES[kind]
+    if len(set(elements)) < 2:
+        return "&[%d%s; %d]" % (elements[0] if elements else 0, TYPES[kind], len(elements))
     return "&[%s]" % ", ".join("%d%s" % (element, TYPES[kind]) for element in elements)
 
 
@@ -230,9 +231,17 @@ def as_nightcases(calls, crates):
 
 
 def as_night(calls, crates):
-    """Gives `night` the list that its one call has."""
+    """Gives `night` the list that its one call has, or one of a file with so many bytes."""
     (a_call,) = calls
-    (crates / "night" / "stdin").write_bytes(joined(*a_call.arguments))
+    (given,) = a_call.arguments
+    if a_call.name == "sheet_of_length":
+        (crates / "night" / "data").mkdir()
+        (crates / "night" / "data" / "long").touch()
+        os.truncate(crates / "night" / "data" / "long", given)
+        text = b"long"
+    else:
+        text = joined(given)
+    (crates / "night" / "stdin").write_bytes(text)
     return ""
 
 
@@ -245,7 +254,7 @@ def printed(crate, text):
     """What the crate prints of a call, from the call's line."""
     if crate != "night":
         return text + "\n"
-    found = re.findall(r"(?:(\d+) (?=unopened))?([^/]+)(?: / |$)", text.removeprefix("sheet "))
+    found = re.findall(r"(?:(\d+) (?=unopened))?([^/]+)(?: / |$)", text.partition(" ")[2])
     return "".join((words + "\n") * int(times or 1) for times, words in found)
 
 
@@ -269,7 +278,7 @@ def run(calls, lines, edit=None):
     amiss = ""
     for kind, maker in MAKERS.items():
         made = [(a_call, text) for a_call, text in zip(calls, lines) if KINDS[a_call.name].program == kind]
-        # A list is all that `night` is given, so each of its calls is a run of its own.
+        # `night` is given one list, so each of its calls is a run of its own.
         for together in [[one] for one in made] if kind == "night" else [made] if made else []:
             amiss += run_by(*maker, *zip(*together), edit)
     return amiss

@@ -35,7 +35,7 @@ static int save(const char *path) {
 
 /* Reads the file and prints what it holds and its line of the report; 0 where that is done. */
 static int show(const char *path) {
-    static uint8_t bytes[SF_LONGEST_FILE + 1]; /* one more, so that a file that is too long is refused */
+    static uint8_t bytes[SF_LONGEST_FILE + 1]; /* one more, which tells a file that is too long */
     static uint16_t samples[SF_MOST_SAMPLES];
     uint16_t terms[SF_MOST_TERMS];
     uint8_t line[SF_LINE_BYTES];
@@ -47,11 +47,16 @@ static int show(const char *path) {
     }
     size_t read = fread(bytes, 1, sizeof bytes, file);
     int failed = ferror(file);
+    /* No more is read of a file that is too long: the system says where it ends. */
+    if (read > SF_LONGEST_FILE && fseek(file, 0, SEEK_END) == 0 && (size_t)ftell(file) > read)
+        read = (size_t)ftell(file);
     fclose(file);
     if (failed) {
         fprintf(stderr, "%s cannot be read\n", path);
         return 1;
     }
+    if (read > SF_LONGEST_FILE)
+        return refused(SF_REFUSED_FILE_LENGTH, &read);
     if (refused(sf_read(bytes, read, samples, SF_MOST_SAMPLES, terms, SF_MOST_TERMS, &n, &m), &n) ||
         refused(sf_line(bytes, read, line, sizeof line, &length), &length))
         return 1;

@@ -25,7 +25,7 @@
 #include <stddef.h>
 #include <stdint.h>
 
-#define SF_VERSION "0.3.0"
+#define SF_VERSION "0.4.0"
 
 #define SF_REACH 4                       /* an offset is -SF_REACH to SF_REACH */
 #define SF_WIDTH (2 * SF_REACH + 1)      /* the number of offsets */
@@ -45,7 +45,7 @@
 #define SF_MOST_NAMES 250                /* the most names that a list has */
 #define SF_LONGEST_NAME 255              /* the most bytes that a name has */
 #define SF_LONGEST_LIST (SF_MOST_NAMES * (SF_LONGEST_NAME + 1))
-#define SF_TOTALS 11                     /* how many totals the night sheet has */
+#define SF_TOTALS 14                     /* how many totals the night sheet has */
 #define SF_TOTALS_BYTES 512              /* the bytes that are lent for the night sheet's last line */
 
 /* The bytes of a scan file that holds so many samples and terms, and of the longest one. */
@@ -54,29 +54,40 @@
 
 /* ---- refusals */
 
-/* The numbers of the refusals: when each is given; its place. */
+/*
+ * The numbers of the refusals: when each is given; its place. No refusal has the number 11. The place of
+ * 16, 17 and 18 is a byte of the file, the first being byte 0: of n bytes the mark begins at byte n - 2, the
+ * term distance at n - 8, the sample distance at n - 12.
+ */
 enum {
-    SF_REFUSED_RECIPE_LENGTH = 1,  /* a recipe is empty, no multiple of 4 bytes, or over 128 bytes; its length */
-    SF_REFUSED_STEP_CODE = 2,      /* a step's code is over 8; the step, from 0 */
-    SF_REFUSED_STEP_FIELD = 3,     /* a step's field is not allowed; the step */
-    SF_REFUSED_SIGNALS_HELD = 4,   /* too few signals are held, a ninth is added, or not one is left;
-                                      the step; at the end the number of steps */
-    SF_REFUSED_REACH = 5,          /* the reach leaves -4 to 4; the step */
-    SF_REFUSED_TERMS_LENT = 6,     /* fewer elements are lent for terms than needed; the terms needed */
-    SF_REFUSED_BAD_TERM = 7,       /* a term is over 511, not above its predecessor, or contains an earlier
-                                      one; the first such index */
-    SF_REFUSED_TERM_COUNT = 8,     /* a form has over 126 terms; its terms */
-    SF_REFUSED_SCAN_LENGTH = 9,    /* a scan has no samples, or over 16,384; the samples */
-    SF_REFUSED_OUTPUT_LENGTH = 10, /* an output slice has another length than needed (reading a file: a
-                                      shorter one); the length needed */
-    SF_REFUSED_LAYOUT = 11,        /* a scan file is badly laid out; 0 */
-    SF_REFUSED_NOT_POSITIVE = 12,  /* a truth table is not positive; the least pattern with value 1 that
-                                      one more offset turns to 0 */
-    SF_REFUSED_TABLE_LENGTH = 13,  /* a truth table slice has not 64 bytes; its length */
-    SF_REFUSED_PRESET_NUMBER = 14, /* a preset number is over 19; the number, never cut */
-    SF_REFUSED_BAD_NAME = 19,      /* a line of a list of names is empty, or over 255 bytes; the first such
-                                      line, from 1 */
-    SF_REFUSED_NAME_COUNT = 20     /* a list of names has over 250 lines; 250 */
+    SF_REFUSED_RECIPE_LENGTH = 1,    /* a recipe is empty, no multiple of 4 bytes, or over 128 bytes; its length */
+    SF_REFUSED_STEP_CODE = 2,        /* a step's code is over 8; the step, from 0 */
+    SF_REFUSED_STEP_FIELD = 3,       /* a step's field is not allowed; the step */
+    SF_REFUSED_SIGNALS_HELD = 4,     /* too few signals are held, a ninth is added, or not one is left;
+                                        the step; at the end the number of steps */
+    SF_REFUSED_REACH = 5,            /* the reach leaves -4 to 4; the step */
+    SF_REFUSED_TERMS_LENT = 6,       /* fewer elements are lent for terms than needed; the terms needed */
+    SF_REFUSED_BAD_TERM = 7,         /* a term is over 511, not above its predecessor, or contains an earlier
+                                        one; the first such index */
+    SF_REFUSED_TERM_COUNT = 8,       /* a form has over 126 terms; its terms */
+    SF_REFUSED_SCAN_LENGTH = 9,      /* a scan has no samples, or over 16,384; the samples */
+    SF_REFUSED_OUTPUT_LENGTH = 10,   /* an output slice has another length than needed (reading a file: a
+                                        shorter one); the length needed */
+    SF_REFUSED_NOT_POSITIVE = 12,    /* a truth table is not positive; the least pattern with value 1 that
+                                        one more offset turns to 0 */
+    SF_REFUSED_TABLE_LENGTH = 13,    /* a truth table slice has not 64 bytes; its length */
+    SF_REFUSED_PRESET_NUMBER = 14,   /* a preset number is over 19; the number, never cut */
+    SF_REFUSED_FILE_LENGTH = 15,     /* a scan file's length is outside 12 to 33,032; the length */
+    SF_REFUSED_MARK = 16,            /* a scan file does not end with the mark 53 46 hex; the mark's first byte,
+                                        from the file's start */
+    SF_REFUSED_TERM_DISTANCE = 17,   /* a scan file's term distance is not 12 + 2 x the number of terms; its
+                                        first byte, from the file's start */
+    SF_REFUSED_SAMPLE_DISTANCE = 18, /* a scan file's sample distance is not the file's length, is below the
+                                        term distance, or differs from it by an odd number; its first byte,
+                                        from the file's start */
+    SF_REFUSED_BAD_NAME = 19,        /* a line of a list of names is empty, or over 255 bytes; the first such
+                                        line, from 1 */
+    SF_REFUSED_NAME_COUNT = 20       /* a list of names has over 250 lines; 250 */
 };
 
 /* When a refusal is given, in words; "accepted" for 0, and "no refusal has this number" for any other. */
@@ -95,10 +106,15 @@ static inline const char *sf_sentence(uint8_t number) {
     case SF_REFUSED_SCAN_LENGTH: return "a scan has no samples, or over 16,384";
     case SF_REFUSED_OUTPUT_LENGTH:
         return "an output slice has another length than needed (reading a file: a shorter one)";
-    case SF_REFUSED_LAYOUT: return "a scan file is badly laid out";
     case SF_REFUSED_NOT_POSITIVE: return "a truth table is not positive";
     case SF_REFUSED_TABLE_LENGTH: return "a truth table slice has not 64 bytes";
     case SF_REFUSED_PRESET_NUMBER: return "a preset number is over 19";
+    case SF_REFUSED_FILE_LENGTH: return "a scan file's length is outside 12 to 33,032";
+    case SF_REFUSED_MARK: return "a scan file does not end with the mark 53 46 hex";
+    case SF_REFUSED_TERM_DISTANCE: return "a scan file's term distance is not 12 + 2 x the number of terms";
+    case SF_REFUSED_SAMPLE_DISTANCE:
+        return "a scan file's sample distance is not the file's length, is below the term distance, or differs "
+               "from it by an odd number";
     case SF_REFUSED_BAD_NAME: return "a line of a list of names is empty, or over 255 bytes";
     case SF_REFUSED_NAME_COUNT: return "a list of names has over 250 lines";
     default: return "no refusal has this number";
@@ -188,17 +204,20 @@ static inline uint8_t sf_put_step(uint8_t *at, uint64_t code, uint64_t rank, uin
  * adds more files than that gets each of them modulo 2^64.
  */
 enum {
-    SF_TOTAL_CLEANED = 0,     /* files cleaned */
-    SF_TOTAL_UNOPENED = 1,    /* files not opened */
-    SF_TOTAL_BAD_TERM = 2,    /* files refused under 7 */
-    SF_TOTAL_TERM_COUNT = 3,  /* files refused under 8 */
-    SF_TOTAL_SCAN_LENGTH = 4, /* files refused under 9 */
-    SF_TOTAL_LAYOUT = 5,      /* files refused under 11 */
-    SF_TOTAL_SAMPLES = 6,     /* of the files cleaned: samples */
-    SF_TOTAL_CHANGED = 7,     /* changed samples */
-    SF_TOTAL_SPIKES = 8,      /* spikes */
-    SF_TOTAL_UP = 9,          /* total of positive residues */
-    SF_TOTAL_DOWN = 10        /* total of negative residues, with the sign dropped */
+    SF_TOTAL_CLEANED = 0,         /* files cleaned */
+    SF_TOTAL_UNOPENED = 1,        /* files not opened */
+    SF_TOTAL_BAD_TERM = 2,        /* files refused under 7 */
+    SF_TOTAL_TERM_COUNT = 3,      /* files refused under 8 */
+    SF_TOTAL_SCAN_LENGTH = 4,     /* files refused under 9 */
+    SF_TOTAL_FILE_LENGTH = 5,     /* files refused under 15 */
+    SF_TOTAL_MARK = 6,            /* files refused under 16 */
+    SF_TOTAL_TERM_DISTANCE = 7,   /* files refused under 17 */
+    SF_TOTAL_SAMPLE_DISTANCE = 8, /* files refused under 18 */
+    SF_TOTAL_SAMPLES = 9,         /* of the files cleaned: samples */
+    SF_TOTAL_CHANGED = 10,        /* changed samples */
+    SF_TOTAL_SPIKES = 11,         /* spikes */
+    SF_TOTAL_UP = 12,             /* total of positive residues */
+    SF_TOTAL_DOWN = 13            /* total of negative residues, with the sign dropped */
 };
 
 /* ---- the calls */
@@ -276,8 +295,9 @@ uint8_t sf_preset(uint64_t number, uint16_t *terms, size_t lent, size_t *value);
 /*
  * Writes the scan that a scan file holds to the start of samples and its form to the start of terms;
  * *value is the number of samples and *terms_read the number of terms. A refused call leaves
- * *terms_read as it was. Not in place: no two of its slices may overlap.
- * Refuses 11, 7, 8, 9, 6, 10.
+ * *terms_read as it was. n is the file's whole length, here and below: it is the place of refusal 15.
+ * Not in place: no two of its slices may overlap.
+ * Refuses 15, 16, 17, 18, 7, 8, 9, 6, 10.
  */
 uint8_t sf_read(const uint8_t *file, size_t n, uint16_t *samples, size_t lent_samples,
                 uint16_t *terms, size_t lent_terms, size_t *value, size_t *terms_read);
@@ -295,7 +315,7 @@ uint8_t sf_write(const uint16_t *terms, size_t m, const uint16_t *scan, size_t s
  * changed samples, spikes (longest runs of neighbouring samples whose residues are of one sign), total
  * of positive residues, total of negative residues with the sign dropped; *value is the number of
  * samples. Not in place: the counts may not overlap the file.
- * Refuses 11, 7, 8, 9.
+ * Refuses 15, 16, 17, 18, 7, 8, 9.
  */
 uint8_t sf_count(const uint8_t *file, size_t n, uint64_t counts[SF_COUNTS], size_t *value);
 
@@ -318,7 +338,10 @@ uint8_t sf_night_list(const uint8_t *text, size_t n, size_t *value);
 /*
  * Adds a file of the list to the night's totals and writes its line, which is that of sf_line, to the
  * start of out, where lent is SF_LINE_BYTES; *value is the line's length. No file is refused: a refused
- * one has its line and its place in the totals. Not in place: the file, the totals and out may not overlap.
+ * one has its line and its place in the totals. A host that reads only the start of a file over
+ * SF_LONGEST_FILE bytes does not call this for it: it writes the line itself, "refused 15" and the whole
+ * length, and adds 1 to totals[SF_TOTAL_FILE_LENGTH]. Not in place: the file, the totals and out may not
+ * overlap.
  * Refuses 10, and then adds nothing.
  */
 uint8_t sf_night_line(const uint8_t *file, size_t n, uint64_t totals[SF_TOTALS], uint8_t *out, size_t lent,

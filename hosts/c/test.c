@@ -1,7 +1,9 @@
 /* Every function of the C interface: an answer, each refusal, what a lent slice keeps, and null pointers. */
+#define _DEFAULT_SOURCE
 #include "stackfilter.h"
 #include <stdio.h>
 #include <string.h>
+#include <sys/mman.h>
 
 static int checks, faults;
 static size_t value; /* what the last call wrote */
@@ -115,9 +117,9 @@ static void beside(void) {
     expect("compile, two left", sf_compile(two, sizeof two, terms, SF_MOST_TERMS, &value), 4, 2);
     must("two left", strcmp(sf_signals_sentence(two, sizeof two, value), "more than one signal is left at the end") == 0);
 
-    /* Each number that is given has a sentence of its own; 15 to 18, and those over 20, are not given. */
+    /* Each number that is given has a sentence of its own; 11, and those over 20, are not given. */
     for (int number = 0; number < 256; number++) {
-        int given = number <= SF_REFUSED_PRESET_NUMBER || number == SF_REFUSED_BAD_NAME || number == SF_REFUSED_NAME_COUNT;
+        int given = number <= SF_REFUSED_NAME_COUNT && number != 11;
         must("a sentence", (strcmp(sf_sentence((uint8_t)number), "no refusal has this number") != 0) == given);
         for (int other = 0; other < number && given; other++)
             must("sentences differ", strcmp(sf_sentence((uint8_t)number), sf_sentence((uint8_t)other)) != 0);
@@ -192,7 +194,7 @@ static void files(void) {
 
     uint16_t samples[6] = {1, 2, 3, 4, 5, 6}, terms[4] = {1, 2, 3, 4};
     size_t terms_read = 99;
-    expect("read, 27 bytes", sf_read(FILE_BYTES, 27, samples, 6, terms, 4, &value, &terms_read), 11, 0);
+    expect("read, 27 bytes", sf_read(FILE_BYTES, 27, samples, 6, terms, 4, &value, &terms_read), 16, 25);
     expect("read, both short", sf_read(FILE_BYTES, 28, samples, 4, terms, 2, &value, &terms_read), 6, 3);
     expect("read, four lent", sf_read(FILE_BYTES, 28, samples, 4, terms, 4, &value, &terms_read), 10, 5);
     same("read, refused", samples, (uint16_t[]){1, 2, 3, 4, 5, 6}, sizeof samples);
@@ -204,7 +206,7 @@ static void files(void) {
     same("read", &terms_read, (size_t[]){3}, sizeof terms_read);
 
     uint64_t counts[SF_COUNTS + 1] = {1, 2, 3, 4, 5, 6};
-    expect("count, no bytes", sf_count(FILE_BYTES, 0, counts, &value), 11, 0);
+    expect("count, no bytes", sf_count(FILE_BYTES, 0, counts, &value), 15, 0);
     same("count, refused", counts, (uint64_t[]){1, 2, 3, 4, 5, 6}, sizeof counts);
     expect("count", sf_count(FILE_BYTES, 28, counts, &value), 0, 5);
     same("count", counts, (uint64_t[]){5, 1, 1, 80, 0, 6}, sizeof counts);
@@ -220,9 +222,118 @@ static void files(void) {
     expect("line", sf_line(FILE_BYTES, 28, line, SF_LINE_BYTES, &value), 0, 11);
     same("line", line, "5 1 1 80 0\n", 11);
     same("line, behind", line + 11, before + 11, sizeof line - 11);
-    expect("line of a refused file", sf_line(FILE_BYTES, 27, line, SF_LINE_BYTES, &value), 0, 13);
-    same("line of a refused file", line, "refused 11 0\n", 13);
-    same("line of a refused file, behind", line + 13, before + 13, sizeof line - 13);
+    expect("line of a refused file", sf_line(FILE_BYTES, 27, line, SF_LINE_BYTES, &value), 0, 14);
+    same("line of a refused file", line, "refused 16 25\n", 14);
+    same("line of a refused file, behind", line + 14, before + 14, sizeof line - 14);
+}
+
+/* Where a file that is refused under a number stands among the totals. */
+static int total_of(uint8_t number) {
+    return number < SF_REFUSED_FILE_LENGTH ? SF_TOTAL_BAD_TERM + number - SF_REFUSED_BAD_TERM
+                                           : SF_TOTAL_FILE_LENGTH + number - SF_REFUSED_FILE_LENGTH;
+}
+
+/* Every call that takes a scan file must refuse this one under this number at this place, or say so in its line and its totals. */
+static void refused(const char *what, const uint8_t *file, size_t n, uint8_t number, size_t place) {
+    uint8_t line[SF_LINE_BYTES];
+    char expected[SF_LINE_BYTES];
+    uint64_t counts[SF_COUNTS] = {1, 2, 3, 4, 5}, totals[SF_TOTALS] = {0}, one[SF_TOTALS] = {0};
+    size_t terms_read = 99, length = (size_t)snprintf(expected, sizeof expected, "refused %d %zu\n", number, place);
+    expect(what, sf_read(file, n, NULL, 0, NULL, 0, &value, &terms_read), number, place);
+    must(what, terms_read == 99);
+    expect(what, sf_count(file, n, counts, &value), number, place);
+    same(what, counts, (uint64_t[]){1, 2, 3, 4, 5}, sizeof counts);
+    expect(what, sf_line(file, n, line, sizeof line, &value), 0, length);
+    same(what, line, expected, length);
+    memset(line, 0, sizeof line);
+    expect(what, sf_night_line(file, n, totals, line, sizeof line, &value), 0, length);
+    same(what, line, expected, length);
+    one[total_of(number)] = 1;
+    same(what, totals, one, sizeof totals);
+}
+
+/* What is wrong with a scan file: the causes apart and together, and the lengths at which refusal 15 begins and ends. */
+static void damaged(void) {
+    static const uint8_t no_samples[] = {24, 0, 40, 0, 48, 0, 18, 0, 0, 0, 18, 0, 0, 0, 3, 0, 0x53, 0x46};
+    uint64_t counts[SF_COUNTS];
+    uint8_t file[sizeof FILE_BYTES + 1];
+
+    /* Each set of four faults, the first of which counts: in the mark, the term distance, the sample distance and the first term. */
+    for (int faults_made = 0; faults_made < 32; faults_made++) {
+        int has_samples = faults_made < 16;
+        size_t n = has_samples ? sizeof FILE_BYTES : sizeof no_samples;
+        memcpy(file, has_samples ? FILE_BYTES : no_samples, n);
+        if (faults_made & 1)
+            file[n - 1] ^= 1;
+        if (faults_made & 2)
+            file[n - 8] ^= 2;
+        if (faults_made & 4)
+            file[n - 12] ^= 2;
+        if (faults_made & 8)
+            file[n - 12 - 5] = 2;
+        if (faults_made & 1)
+            refused("the mark", file, n, 16, n - 2);
+        else if (faults_made & 2)
+            refused("the term distance", file, n, 17, n - 8);
+        else if (faults_made & 4)
+            refused("the sample distance", file, n, 18, n - 12);
+        else if (faults_made & 8)
+            refused("a term behind the layout", file, n, 7, 0);
+        else if (!has_samples)
+            refused("no samples behind the layout", file, n, 9, 0);
+        else
+            expect("no fault", sf_count(file, n, counts, &value), 0, 5);
+    }
+
+    /* The byte that stands in each field, and each cause of 17 and 18 by itself. */
+    for (size_t place = 0; place < SF_TRAILER_BYTES; place++) {
+        size_t n = sizeof FILE_BYTES, at = n - SF_TRAILER_BYTES + place;
+        memcpy(file, FILE_BYTES, n);
+        file[at] ^= 128;
+        uint8_t number = place < 4 ? 18 : place < 10 ? 17 : 16;
+        refused("a byte of the trailer", file, n, number, number == 18 ? 16 : number == 17 ? 20 : 26);
+    }
+    const uint8_t below[] = {12, 0, 0, 0, 14, 0, 0, 0, 1, 0, 0x53, 0x46};
+    refused("a sample distance below the term distance", below, sizeof below, 18, 0);
+    file[0] = 7;
+    memcpy(file + 1, FILE_BYTES, sizeof FILE_BYTES);
+    refused("a byte more before the samples", file, sizeof file, 18, 17);
+    file[17] = 29;
+    refused("an odd difference", file, sizeof file, 18, 17);
+    refused("the first byte cut off", FILE_BYTES + 1, 27, 18, 15);
+    refused("the last byte cut off", FILE_BYTES, 27, 16, 25);
+
+    /* Lengths, with a sound mark and without one. */
+    static uint8_t long_file[1000000];
+    static uint16_t scan[SF_MOST_SAMPLES];
+    const uint8_t median[] = {SF_STEP(SF_SIGNAL, 0, 0), SF_STEP(SF_MEDIAN, 0, SF_PATTERNS - 1)};
+    const uint8_t shortest[] = {12, 0, 0, 0, 12, 0, 0, 0, 0, 0, 0x53, 0x46};
+    uint16_t terms[SF_MOST_TERMS];
+    for (size_t n = 0; n < SF_TRAILER_BYTES; n++) {
+        refused("shorter than the trailer", long_file, n, 15, n);
+        refused("shorter than the trailer, with its mark", shortest + SF_TRAILER_BYTES - n, n, 15, n);
+    }
+    refused("12 bytes", long_file, 12, 16, 10);
+    refused("12 bytes, a trailer alone", shortest, 12, 9, 0);
+    refused("33,032 bytes", long_file, SF_LONGEST_FILE, 16, 33030);
+    refused("33,033 bytes", long_file, SF_LONGEST_FILE + 1, 15, 33033);
+    refused("a million bytes", long_file, sizeof long_file, 15, 1000000);
+    expect("the most terms", sf_compile(median, sizeof median, terms, SF_MOST_TERMS, &value), 0, SF_MOST_TERMS);
+    expect("the longest file", sf_write(terms, value, scan, SF_MOST_SAMPLES, long_file, SF_LONGEST_FILE, &value), 0, 33032);
+    expect("the longest file is counted", sf_count(long_file, SF_LONGEST_FILE, counts, &value), 0, SF_MOST_SAMPLES);
+    refused("the longest file, cut", long_file, SF_LONGEST_FILE - 1, 16, 33029);
+    memmove(long_file + 1, long_file, SF_LONGEST_FILE);
+    refused("a byte before the longest file", long_file, SF_LONGEST_FILE + 1, 15, 33033);
+
+    /* A length that 32 bits do not hold, of memory that is asked for and not used. */
+    const size_t far = 5000000000;
+    void *reserved = mmap(NULL, far, PROT_READ, MAP_PRIVATE | MAP_ANONYMOUS | MAP_NORESERVE, -1, 0);
+    if (reserved == MAP_FAILED) {
+        printf("C: a file of 5,000,000,000 bytes is not tried, since this machine does not reserve them\n");
+        return;
+    }
+    refused("5,000,000,000 bytes", (const uint8_t *)reserved, far, 15, far);
+    munmap(reserved, far);
 }
 
 /* A list of so many names of so many bytes, and behind it its end. */
@@ -269,20 +380,20 @@ static void night(void) {
     expect("night_line", sf_night_line(FILE_BYTES, 28, all, out, SF_LINE_BYTES, &value), 0, 11);
     same("night_line", out, "5 1 1 80 0\n", 11);
     same("night_line, behind", out + 11, before + 11, sizeof room - 12);
-    same("night_line, totals", totals, (uint64_t[]){99, 1, 0, 0, 0, 0, 0, 5, 1, 1, 80, 0, 99}, sizeof totals);
+    same("night_line, totals", totals, (uint64_t[]){99, 1, 0, 0, 0, 0, 0, 0, 0, 0, 5, 1, 1, 80, 0, 99}, sizeof totals);
     expect("night_unopened", sf_night_unopened(all, out, SF_LINE_BYTES, &value), 0, 9);
     same("night_unopened", out, "unopened\n0\n", 11); /* what the line before left is behind it */
     same("night_unopened, behind", out + 11, before + 11, sizeof room - 12);
-    same("night_unopened, totals", totals, (uint64_t[]){99, 1, 1, 0, 0, 0, 0, 5, 1, 1, 80, 0, 99}, sizeof totals);
-    expect("night_line, 27 bytes", sf_night_line(FILE_BYTES, 27, all, out, SF_LINE_BYTES, &value), 0, 13);
-    same("night_line, 27 bytes", out, "refused 11 0\n", 13);
+    same("night_unopened, totals", totals, (uint64_t[]){99, 1, 1, 0, 0, 0, 0, 0, 0, 0, 5, 1, 1, 80, 0, 99}, sizeof totals);
+    expect("night_line, 27 bytes", sf_night_line(FILE_BYTES, 27, all, out, SF_LINE_BYTES, &value), 0, 14);
+    same("night_line, 27 bytes", out, "refused 16 25\n", 14);
     expect("night_line, bad term", sf_night_line(bad_term, sizeof bad_term, all, out, SF_LINE_BYTES, &value), 0, 12);
     same("night_line, bad term", out, "refused 7 1\n", 12);
     expect("night_line, no samples", sf_night_line(no_samples, sizeof no_samples, all, out, SF_LINE_BYTES, &value), 0, 12);
     same("night_line, no samples", out, "refused 9 0\n", 12);
     expect("night_line, two spikes", sf_night_line(TWO_SPIKES, 30, all, out, SF_LINE_BYTES, &value), 0, 12);
     same("night_line, two spikes", out, "6 2 2 80 10\n", 12);
-    const uint64_t sums[] = {99, 2, 1, 1, 0, 1, 1, 11, 3, 3, 160, 10, 99};
+    const uint64_t sums[] = {99, 2, 1, 1, 0, 1, 0, 1, 0, 0, 11, 3, 3, 160, 10, 99};
     same("the totals so far", totals, sums, sizeof totals);
 
     memset(room, 7, sizeof room);
@@ -298,18 +409,18 @@ static void night(void) {
     same("refused, out", room, before, sizeof room);
     same("refused, totals", totals, sums, sizeof totals);
 
-    expect("night_totals", sf_night_totals(all, out, SF_TOTALS_BYTES, &value), 0, 26);
-    same("night_totals", out, "2 1 1 0 1 1 11 3 3 160 10\n", 26);
+    expect("night_totals", sf_night_totals(all, out, SF_TOTALS_BYTES, &value), 0, 32);
+    same("night_totals", out, "2 1 1 0 1 0 1 0 0 11 3 3 160 10\n", 32);
     same("night_totals, before", room, before, 1);
     same("night_totals, totals", totals, sums, sizeof totals);
 
     /* Each total is a number of 64 bits, in its own place; beyond 2^64 it goes on from 0. */
-    const uint64_t places[SF_TOTALS] = {0, 1, 22, 333, 4444, UINT64_MAX, 6, 7, 8, 9, 10};
-    expect("night_totals, each in its place", sf_night_totals(places, out, SF_TOTALS_BYTES, &value), 0, 48);
-    same("night_totals, each in its place", out, "0 1 22 333 4444 18446744073709551615 6 7 8 9 10\n", 48);
+    const uint64_t places[SF_TOTALS] = {0, 1, 22, 333, 4444, UINT64_MAX, 6, 7, 8, 9, 10, 11, 12, 13};
+    expect("night_totals, each in its place", sf_night_totals(places, out, SF_TOTALS_BYTES, &value), 0, 57);
+    same("night_totals, each in its place", out, "0 1 22 333 4444 18446744073709551615 6 7 8 9 10 11 12 13\n", 57);
     uint64_t most[SF_TOTALS], after[SF_TOTALS];
     memset(most, 255, sizeof most);
-    expect("night_totals, the largest", sf_night_totals(most, out, SF_TOTALS_BYTES, &value), 0, 231);
+    expect("night_totals, the largest", sf_night_totals(most, out, SF_TOTALS_BYTES, &value), 0, 294);
     memcpy(after, most, sizeof most);
     after[SF_TOTAL_UNOPENED] = 0;
     expect("night_unopened, the largest", sf_night_unopened(most, out, SF_LINE_BYTES, &value), 0, 9);
@@ -352,7 +463,7 @@ static void nulls(void) {
     must("form_to_table, null terms", table[0] == 0);
     expect("preset 0, null terms", sf_preset(0, NULL, 0, &value), 0, 0);
     expect("preset 10, null terms", sf_preset(10, NULL, 0, &value), 6, 3);
-    expect("read, null file", sf_read(NULL, 0, two, 2, NULL, 0, &value, &terms_read), 11, 0);
+    expect("read, null file", sf_read(NULL, 0, two, 2, NULL, 0, &value, &terms_read), 15, 0);
     expect("read, null samples", sf_read(FILE_BYTES, 28, NULL, 0, three, 3, &value, &terms_read), 10, 5);
     expect("read, null terms", sf_read(sample, sizeof sample, two, 2, NULL, 0, &value, &terms_read), 0, 1);
     same("read, null terms", two, (uint16_t[]){7, 0}, sizeof two);
@@ -360,11 +471,11 @@ static void nulls(void) {
     same("write, null terms", bytes, sample, sizeof sample);
     expect("write, null scan", sf_write(FORM, 3, NULL, 0, bytes, 18, &value), 9, 0);
     expect("write, null out", sf_write(FORM, 3, SCAN, 5, NULL, 0, &value), 10, 28);
-    expect("count, null file", sf_count(NULL, 0, counts, &value), 11, 0);
+    expect("count, null file", sf_count(NULL, 0, counts, &value), 15, 0);
     expect("count, empty scan", sf_count(empty, sizeof empty, counts, &value), 9, 0);
     expect("line, null out", sf_line(FILE_BYTES, 28, NULL, 0, &value), 10, SF_LINE_BYTES);
     expect("line, null file", sf_line(NULL, 0, bytes, SF_LINE_BYTES, &value), 0, 13);
-    same("line, null file", bytes, "refused 11 0\n", 13);
+    same("line, null file", bytes, "refused 15 0\n", 13);
     uint64_t totals[SF_TOTALS] = {0};
     expect("night_list, null text", sf_night_list(NULL, 0, &value), 0, 0);
     expect("night_line, null out", sf_night_line(FILE_BYTES, 28, totals, NULL, 0, &value), 10, SF_LINE_BYTES);
@@ -372,7 +483,7 @@ static void nulls(void) {
     expect("night_totals, null out", sf_night_totals(totals, NULL, 0, &value), 10, SF_TOTALS_BYTES);
     same("night, null out", totals, (uint64_t[SF_TOTALS]){0}, sizeof totals);
     expect("night_line, null file", sf_night_line(NULL, 0, totals, bytes, SF_LINE_BYTES, &value), 0, 13);
-    same("night_line, null file", bytes, "refused 11 0\n", 13);
+    same("night_line, null file", bytes, "refused 15 0\n", 13);
     same("night_line, null file", totals, (uint64_t[SF_TOTALS]){0, 0, 0, 0, 0, 1}, sizeof totals);
 }
 
@@ -382,6 +493,7 @@ int main(void) {
     scans();
     tables();
     files();
+    damaged();
     lists();
     night();
     nulls();

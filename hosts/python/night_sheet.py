@@ -18,5 +18,5 @@ file = stackfilter.write([24, 40, 48], [10, 10, 90, 10, 10])
 day.write_bytes(file)
 damaged.write_bytes(file[1:])
 
-# The last line: files cleaned, not opened, refused under 7, 8, 9 and 11, then what the cleaned files add up to.
+# The last line: files cleaned, not opened, refused under 7, 8, 9, 15, 16, 17 and 18, then what the cleaned files add up to.
 print(stackfilter.night([day, day, missing, damaged]), end="")

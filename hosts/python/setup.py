@@ -18,7 +18,7 @@ except ImportError:
 ROOT = pathlib.Path(__file__).resolve().parents[2]
 VERSION = ROOT / "VERSION"
 version = VERSION.read_text(encoding="ascii").strip()
-OBJECT = ROOT / "build" / f"libstackfilter.so.{version.split('.')[0]}"
+OBJECT = ROOT / "build" / f"libstackfilter.so.{version.rpartition('.')[0]}"
 
 
 class WithObject(Distribution):

@@ -1,5 +1,7 @@
 """Writing and reading a scan file."""
 
+from itertools import combinations
+
 import chance as by
 from groups.forms import BAD_LISTS, GOOD_LISTS, LONGEST_FORM
 from groups.scans import MEDIAN_3
@@ -96,6 +98,60 @@ def layouts():
     yield read(WORKED_FILE + WORKED_FILE)
 
 
+# What a field of the trailer says in place of what is right, in three ways.
+FAULTS = {
+    "mark": lambda right: [(0x46, 0x53), (0x53, 0x52), (0, 0)],
+    "to_first_term": lambda right: [right + 2, right - 2, -1],
+    "to_first_sample": lambda right: [right + 2, right - 1, -1],
+    "terms": lambda right: [right + 1, right + 256, LARGEST_WORD],
+}
+WAYS = range(3)
+
+
+def with_faults(terms, scan, faults, way):
+    """A file in whose trailer these fields, and no others, are at fault."""
+    file = file_of(terms, scan)
+    fields = {"to_first_sample": len(file), "to_first_term": file_bytes(0, len(terms)),
+              "terms": len(terms), "mark": MARK}
+    for fault in faults:
+        fields[fault] = FAULTS[fault](fields[fault])[way]
+    return file[:-TRAILER_BYTES] + trailer(**fields)
+
+
+def sets_of_faults():
+    """None, each alone, and together with each other one, up to all of them."""
+    return [faults for size in range(len(FAULTS) + 1) for faults in combinations(FAULTS, size)]
+
+
+def faults_together():
+    """15 before 16 before 17 before 18, in files with terms and without, and in a byte too few."""
+    for faults in sets_of_faults():
+        for way in WAYS:
+            yield read(with_faults(MEDIAN_3, [10, 90], faults, way))
+            yield read(with_faults([], [7], faults, way))
+        yield read(with_faults([], [], faults, 0)[1:])
+
+
+def sample_distances():
+    """The file's length, on both sides of the term distance, and that distance itself."""
+    bare = TRAILER_BYTES
+    for size in range(bare, bare + 7):
+        for terms in (0, 1, 2, 3, LARGEST_WORD):
+            yield read([0] * (size - bare) + trailer(size, file_bytes(0, terms), terms))
+            yield read([0] * (size - bare) + trailer(file_bytes(0, terms), file_bytes(0, terms), terms))
+
+
+def large_distances():
+    """About the largest that four bytes can say, and those whose lower bytes are right."""
+    body = WORKED_FILE[:-TRAILER_BYTES]
+    size, to_terms, count = len(WORKED_FILE), file_bytes(0, len(MEDIAN_3)), len(MEDIAN_3)
+    for distance in (0, 2 ** 16 - 1, 2 ** 31 - 2, 2 ** 31 - 1, 2 ** 31, 2 ** 32 - 2, 2 ** 32 - 1,
+                     2 ** 16 + size, 2 ** 31 + size, 2 ** 32 - size, 2 ** 16 + to_terms, 2 ** 32 - to_terms):
+        yield read(body + trailer(distance, to_terms, count))
+        yield read(body + trailer(size, distance, count))
+        yield read(body + trailer(distance, distance, count))
+
+
 def small_files():
     bare = TRAILER_BYTES
     for size in (0, 1, 2, bare - 2, bare - 1):
@@ -148,6 +204,10 @@ def long_files(chance):
     yield read(file_of([], [0] * (samples + 1)), samples, 0)
     yield read(file_of(most[:-1], [0] * (samples + 1)), samples + 1, MOST_TERMS)
     yield read(file_of([], [0] * in_all), samples + 1, 0)
+    # each field at fault in the longest file; 15 before all of them
+    for fault in FAULTS:
+        yield read(with_faults(most, longest, [fault], 0))
+    yield read(with_faults(most, longest + [0], FAULTS, 0))
     # longer than the longest file, though each of these is else sound
     yield read([0] + file_of([], [0] * in_all), samples + 1, 0)
     yield read(file_of([], [0] * (in_all + 1)), samples + 1, 0)
@@ -164,6 +224,9 @@ def calls(chance):
     yield from round_trips(chance)
     yield from small_files()
     yield from layouts()
+    yield from faults_together()
+    yield from sample_distances()
+    yield from large_distances()
     yield from cut_files()
     yield from random_bytes(chance)
     yield from long_files(chance)

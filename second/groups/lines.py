@@ -1,11 +1,11 @@
 """The report's line."""
 
 import chance as by
-from groups.files import WORKED_FILE
+from groups.files import WORKED_FILE, sets_of_faults, trailer, with_faults
 from groups.forms import LONGEST_FORM
 from groups.scans import MEDIAN_3
 from rules.files import file_of
-from rules.limits import BYTE_BITS, LINE_BYTES, MOST_SAMPLES, TOP
+from rules.limits import BYTE_BITS, LINE_BYTES, LONGEST_FILE, MOST_SAMPLES, TOP, TRAILER_BYTES
 from wire import call
 
 
@@ -37,6 +37,20 @@ def longest():
     yield line(file_of([0], [0] * MOST_SAMPLES))
 
 
+def layouts():
+    """Each field at fault, alone and together; the places of 15 to 18 with one digit and with more."""
+    for faults in sets_of_faults():
+        yield line(with_faults(MEDIAN_3, [10, 90], faults, 1))
+    for size in (0, 9, 10, 11, LONGEST_FILE, LONGEST_FILE + 1, 100_000):
+        yield line([0] * size)
+    yield line(trailer(0, 0, 0))
+    yield line(trailer(0, TRAILER_BYTES, 0))
+    for place in (10, 99, 100, 999, 1000):
+        yield line([0] * (place + 2))
+        yield line([0] * (place - 4) + trailer(0, 0, 0))
+        yield line([0] * place + trailer(0, TRAILER_BYTES, 0))
+
+
 def refused(chance):
     """The places of 7 and 9 with one digit and with more; damaged files."""
     yield line(file_of(LONGEST_FORM[:10] + [0], [1]))
@@ -53,4 +67,5 @@ def calls(chance):
     yield from slices()
     yield from digits()
     yield from longest()
+    yield from layouts()
     yield from refused(chance)

@@ -1,16 +1,18 @@
 """Outcomes, totals and their lines."""
 
 from rules.limits import LARGEST_TOTAL, LINE_BYTES, MOST_NAMES, MOST_SAMPLES, TOP, TOTALS_BYTES
-from rules.nights import COUNTS, TOTALS, UNOPENED
+from rules.nights import COUNTED_REFUSALS, COUNTS, TOTALS, UNOPENED
 from wire import call
 
 LARGEST_NUMBER = 255
 # A file of the most samples, all cleaned to 0 or to the top.
 FULL_UP = (MOST_SAMPLES, MOST_SAMPLES, 1, MOST_SAMPLES * TOP, 0)
 FULL_DOWN = (MOST_SAMPLES, MOST_SAMPLES, 1, 0, MOST_SAMPLES * TOP)
-REFUSALS = [(7, 0), (7, 126), (8, 127), (9, 0), (9, 16385), (11, 0)]
+REFUSALS = [(7, 0), (7, 126), (8, 127), (9, 0), (9, 16385), (15, 0), (15, 11), (15, 33033), (15, 5_000_000_000),
+            (16, 10), (16, 33030), (17, 4), (17, 33024), (18, 0), (18, 33020)]
 LISTS = [(19, 1), (19, 9), (19, 10), (19, 250), (20, 250)]
-OTHERS = [(0, 0), (1, 0), (6, 3), (10, 128), (12, 5), (LARGEST_NUMBER, LARGEST_TOTAL)]
+# No file is refused under these; 11 is not used any more.
+OTHERS = [(0, 0), (1, 0), (6, 3), (10, 128), (11, 0), (12, 5), (LARGEST_NUMBER, LARGEST_TOTAL)]
 
 
 def refused(number, place):
@@ -80,7 +82,7 @@ def totals_lines(chance):
             totals[i] = number
             yield call("totals_line", totals, TOTALS_BYTES)
     for number in digits():
-        yield call("totals_line", [number, 1] * (TOTALS // 2) + [number], TOTALS_BYTES)
+        yield call("totals_line", ([number, 1] * TOTALS)[:TOTALS], TOTALS_BYTES)
     for _ in range(40):
         yield call("totals_line", [a_number(chance) for _ in range(TOTALS)], TOTALS_BYTES)
 
@@ -101,7 +103,7 @@ def sums(chance):
     for number in range(LARGEST_NUMBER + 1):
         yield call("add", nothing, [refused(number, 3)])
     # whole nights: the largest sums, and all of one kind
-    for outcome in (FULL_UP, FULL_DOWN, UNOPENED, refused(7, 1), refused(8, 1), refused(9, 0), refused(11, 0)):
+    for outcome in (FULL_UP, FULL_DOWN, UNOPENED, *(refused(number, 1) for number in COUNTED_REFUSALS)):
         yield call("add", nothing, [outcome] * MOST_NAMES)
     yield call("add", nothing, [FULL_UP, FULL_DOWN] * (MOST_NAMES // 2))
     for size in (1, 2, 3, 10, 50, MOST_NAMES):

@@ -1,5 +1,6 @@
 """The scan file, and the counts that the report prints."""
 
+from collections import namedtuple
 from itertools import groupby
 
 from .forms import check
@@ -49,40 +50,49 @@ def write(terms, scan, out):
 
 # ---- reading
 
-def is_laid_out_well(file):
-    """Whether all of this holds: "12 to 33,032 bytes; the mark; the term distance is 12 + 2 x
-    terms; the sample distance is the file length, is not below the term distance, and differs from
-    it by an even number"."""
-    if not TRAILER_BYTES <= len(file) <= LONGEST_FILE:
-        return False
-    to_first_sample, to_first_term, terms, mark = pointers_in(file)
-    return (mark == MARK
-            and to_first_term == TRAILER_BYTES + TERM_BYTES * terms
-            and to_first_sample == len(file)
-            and to_first_sample >= to_first_term
-            and (to_first_sample - to_first_term) % SAMPLE_BYTES == 0)
+Field = namedtuple("Field", "place number")
 
 
-def pointers_in(file):
-    """The trailer's two distances, number of terms and mark."""
-    parts, rest = [], file[-TRAILER_BYTES:]
-    for size in (DISTANCE_BYTES, DISTANCE_BYTES, COUNT_BYTES):
-        parts.append(number_in(rest[:size]))
-        rest = rest[size:]
-    return *parts, list(rest)
+def trailer_in(file):
+    """The trailer's two distances, number of terms and mark, each with the place of its first byte."""
+    fields, place = [], len(file) - TRAILER_BYTES
+    for size in (DISTANCE_BYTES, DISTANCE_BYTES, COUNT_BYTES, len(MARK)):
+        fields.append(Field(place, number_in(file[place:place + size])))
+        place += size
+    return fields
+
+
+def check_length(length):
+    """Refusal 15 is "for a length outside 12 to 33,032 (place: the length)"."""
+    refuse_if(not TRAILER_BYTES <= length <= LONGEST_FILE, 15, length)
+
+
+def check_layout(file):
+    """"15 for a length .., 16 for the mark (place: its first byte), 17 for the term distance (place:
+    its first byte), 18 for the sample distance (place: its first byte), in this order where 11 stood".
+    What is asked of them: "the mark; the term distance is 12 + 2 x terms; the sample distance is the
+    file length, is not below the term distance, and differs from it by an even number"."""
+    check_length(len(file))
+    to_first_sample, to_first_term, terms, mark = trailer_in(file)
+    refuse_if(mark.number != number_in(MARK), 16, mark.place)
+    refuse_if(to_first_term.number != TRAILER_BYTES + TERM_BYTES * terms.number, 17, to_first_term.place)
+    refuse_if(to_first_sample.number != len(file)
+              or to_first_sample.number < to_first_term.number
+              or (to_first_sample.number - to_first_term.number) % SAMPLE_BYTES != 0,
+              18, to_first_sample.place)
 
 
 def parts_of(file):
     """The samples and the terms of a file that is laid out well."""
-    _, to_first_term, _, _ = pointers_in(file)
-    first_term = len(file) - to_first_term
+    _, to_first_term, _, _ = trailer_in(file)
+    first_term = len(file) - to_first_term.number
     terms = file[first_term:len(file) - TRAILER_BYTES]
     return numbers_in(file[:first_term], SAMPLE_BYTES), numbers_in(terms, TERM_BYTES)
 
 
 def opened(file):
-    """The samples and the terms. Order 11, 7, 8, 9."""
-    refuse_if(not is_laid_out_well(file), 11, 0)
+    """The samples and the terms. Order 15, 16, 17, 18, 7, 8, 9."""
+    check_layout(file)
     scan, terms = parts_of(file)
     check(terms)
     check_scan(scan)
@@ -90,7 +100,7 @@ def opened(file):
 
 
 def read(file, lent_samples, lent_terms):
-    """Order 11, 7, 8, 9, 6, 10. Returns the numbers of samples and of terms."""
+    """Order 15, 16, 17, 18, 7, 8, 9, 6, 10. Returns the numbers of samples and of terms."""
     scan, terms = opened(file)
     refuse_if(len(lent_terms) < len(terms), 6, len(terms))
     refuse_if(len(lent_samples) < len(scan), 10, len(scan))
@@ -112,8 +122,8 @@ def spikes(residue_list):
 
 
 def count(file):
-    """Order 11, 7, 8, 9. Returns "samples, changed samples, spikes, total of positive residues,
-    total of negative residues with the sign dropped"."""
+    """Order 15, 16, 17, 18, 7, 8, 9. Returns "samples, changed samples, spikes, total of positive
+    residues, total of negative residues with the sign dropped"."""
     scan, terms = opened(file)
     left = residues(terms, scan)
     return (len(scan), sum(r != 0 for r in left), spikes(left),

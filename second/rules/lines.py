@@ -1,6 +1,6 @@
 """The lines that the programs print."""
 
-from .files import count
+from .files import check_length, count
 from .limits import LINE_BYTES, TOTALS_BYTES
 from .refusals import Refused, fill
 from .scans import check_output
@@ -16,13 +16,23 @@ def refused_fields(no):
     return ("refused", no.number, no.place)
 
 
-def fields_of(file):
-    """"samples, changed samples, spikes, total of positive residues, total of negative residues
-    with the sign dropped"; "A refused file prints `refused`, number, place"."""
+def answered(rule, given):
+    """What the rule returns; "A refused file prints `refused`, number, place"."""
     try:
-        return count(file)
+        return rule(given)
     except Refused as no:
         return refused_fields(no)
+
+
+def fields_of(file):
+    """"samples, changed samples, spikes, total of positive residues, total of negative residues
+    with the sign dropped"."""
+    return answered(count, file)
+
+
+def fields_of_long(length):
+    """Those of a file that is too long, whatever stands in it."""
+    return answered(check_length, length)
 
 
 def line_of(file):

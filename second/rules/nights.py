@@ -5,12 +5,12 @@ An outcome is the fields of the file's line: five counts, `refused` with its num
 """
 
 from .limits import LARGEST_TOTAL
-from .lines import fields_of, outcome_line, refused_fields, text_of
+from .lines import fields_of, fields_of_long, outcome_line, refused_fields, text_of
 from .lists import names_in
 from .refusals import Refused
 
 UNOPENED = ("unopened",)
-COUNTED_REFUSALS = (7, 8, 9, 11)
+COUNTED_REFUSALS = (7, 8, 9, 15, 16, 17, 18)
 COUNTS = 5
 TOTALS = 2 + len(COUNTED_REFUSALS) + COUNTS
 
@@ -27,7 +27,8 @@ def is_cleaned(outcome):
 
 def totals_of(outcomes):
     """"exact totals: files cleaned, files not opened, files refused under 7, 8, 9 and 11 (a count
-    each), samples, changed samples, spikes and both residue totals"."""
+    each), samples, changed samples, spikes and both residue totals", and by request 3, of 15, 16, 17
+    and 18 where 11 stood, "The night sheet counts the four apart"."""
     cleaned = [outcome for outcome in outcomes if is_cleaned(outcome)]
     unopened = [outcome for outcome in outcomes if outcome == UNOPENED]
     numbers = [outcome[1] for outcome in outcomes if outcome[0] == "refused"]
@@ -51,6 +52,11 @@ def sheet(text, outcome_of_file):
 def sheet_of_none(text):
     """The sheet of a list of names that no file has."""
     return sheet(text, lambda name: UNOPENED)
+
+
+def sheet_of_length(length):
+    """The sheet of one file, which has so many bytes and is too long."""
+    return sheet(b"long", lambda name: fields_of_long(length))
 
 
 # ---- the calls

@@ -5,5 +5,6 @@ pub mod Filters
 pub mod Ranks
 pub mod Sheets
 pub mod Claims
+pub mod Files
 pub mod Counts
 pub mod Nights

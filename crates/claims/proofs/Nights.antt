@@ -35,6 +35,6 @@ module _ (outcomes : List Outcome) (files : OfFiles outcomes) (few : length outc
       → totalsLine (running outcomes) ≡ totalsLine (totalsOf told)
   totals-of-the-lines-above = line-below outcomes files few
 
-  -- Every file is counted once: as cleaned, not opened, or refused under 7, 8, 9 or 11.
+  -- Every file is counted once: as cleaned, not opened, or refused under 7, 8, 9, 15, 16, 17 or 18.
   pub files-counted : filesIn (running outcomes) ≡ length outcomes
   files-counted = files-below outcomes files few

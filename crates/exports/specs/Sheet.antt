@@ -1,25 +1,22 @@
--- The night sheet in C: its totals as eleven numbers in the order of its last line, and what a file makes of them.
+-- The night sheet in C: its totals as numbers in the order of its last line, and what a file makes of them.
 use Prim.Native.Nat.{ℕ}
 use mathlib.Core.List.{List}
 use lib.ListN.{getD}
 use Rattle.limits.specs.Limits.{lineBytes}
 use Rattle.refusals.specs.Refusals.{answered}
 use Rattle.refusals.specs.Shared.{lentChecked}
-use Rattle.files.specs.Layout.{countsFamily}
-use Rattle.files.specs.Files.{fileChecked}
-use Rattle.reports.specs.declared.CountAnswer.the-variants.{Counted, Refused}
-use Rattle.reports.specs.Counts.{countsIn}
+use Rattle.reports.specs.Counts.{fileCounted}
 use Rattle.totals.specs.declared.Outcome.{Outcome}
 use Rattle.totals.specs.declared.Outcome.the-variants.{Opened}
 use Rattle.totals.specs.declared.Totals.{Totals}
 use Rattle.totals.specs.Totals.{added}
-use Rattle.lines.specs.Lines.{elevenOf}
+use Rattle.lines.specs.Lines.{inOrder}
 
 -- what becomes of the file f when it is opened: it is counted, or refused
 abbrev pub outcomeIn : List ℕ → Outcome
-outcomeIn f = Opened (answered (fileChecked countsFamily f) (Counted (countsIn f)) Refused)
+outcomeIn f = Opened (fileCounted f)
 
--- eleven numbers as totals
+-- the numbers as totals
 abbrev pub totalsIn : List ℕ → Totals
 totalsIn ns = record {
   cleaned = getD ns 0 0;
@@ -27,14 +24,17 @@ totalsIn ns = record {
   seven = getD ns 2 0;
   eight = getD ns 3 0;
   nine = getD ns 4 0;
-  eleven = getD ns 5 0;
-  samples = getD ns 6 0;
-  changed = getD ns 7 0;
-  spikes = getD ns 8 0;
-  up = getD ns 9 0;
-  down = getD ns 10 0;
+  fifteen = getD ns 5 0;
+  sixteen = getD ns 6 0;
+  seventeen = getD ns 7 0;
+  eighteen = getD ns 8 0;
+  samples = getD ns 9 0;
+  changed = getD ns 10 0;
+  spikes = getD ns 11 0;
+  up = getD ns 12 0;
+  down = getD ns 13 0;
 }
 
--- the eleven numbers after a file, with so many bytes lent for its line: with its outcome, or as they were where 10 is refused
+-- the numbers after a file, with so many bytes lent for its line: with its outcome, or as they were where 10 is refused
 abbrev pub summed : List ℕ → Outcome → ℕ → List ℕ
-summed ns o lent = answered (lentChecked lineBytes lent) (elevenOf (added (totalsIn ns) o)) (λ _. ns)
+summed ns o lent = answered (lentChecked lineBytes lent) (inOrder (added (totalsIn ns) o)) (λ _. ns)

@@ -7,6 +7,7 @@
 use files::ReadAnswer;
 use limits::LINE_BYTES;
 use limits::WIDTH;
+use lines::NUMBERS;
 use refusals::Answer;
 use refusals::Checked;
 use reports::CountAnswer;
@@ -111,32 +112,35 @@ fn five_in(answer: CountAnswer, before: [u64; 5]) -> [u64; 5]
     }
 }
 
-// Eleven numbers, in the order of the night sheet's last line, as its totals.
-fn totals_in(eleven: [u64; 11]) -> Totals
-    ensures { λ r. ⌜ r ≡ totalsIn eleven ⌝ }
+// Numbers, in the order of the night sheet's last line, as its totals.
+fn totals_in(numbers: [u64; NUMBERS]) -> Totals
+    ensures { λ r. ⌜ r ≡ totalsIn numbers ⌝ }
 {
     Totals {
-        cleaned: eleven[0],
-        unopened: eleven[1],
-        seven: eleven[2],
-        eight: eleven[3],
-        nine: eleven[4],
-        eleven: eleven[5],
-        samples: eleven[6],
-        changed: eleven[7],
-        spikes: eleven[8],
-        up: eleven[9],
-        down: eleven[10],
+        cleaned: numbers[0],
+        unopened: numbers[1],
+        seven: numbers[2],
+        eight: numbers[3],
+        nine: numbers[4],
+        fifteen: numbers[5],
+        sixteen: numbers[6],
+        seventeen: numbers[7],
+        eighteen: numbers[8],
+        samples: numbers[9],
+        changed: numbers[10],
+        spikes: numbers[11],
+        up: numbers[12],
+        down: numbers[13],
     }
 }
 
 // The totals after a file, with so many bytes lent for its line: with its outcome, or as they were where these are refused.
-fn sum(eleven: [u64; 11], outcome: Outcome, lent: usize) -> [u64; 11]
-    ensures { λ r. ⌜ r ≡ summed eleven outcome lent ⌝ }
+fn sum(numbers: [u64; NUMBERS], outcome: Outcome, lent: usize) -> [u64; NUMBERS]
+    ensures { λ r. ⌜ r ≡ summed numbers outcome lent ⌝ }
 {
     match refusals::check_lent(LINE_BYTES, lent) {
-        Checked::Fine => lines::eleven_of(totals::add(totals_in(eleven), outcome)),
-        Checked::Refused(_) => eleven,
+        Checked::Fine => lines::in_order(totals::add(totals_in(numbers), outcome)),
+        Checked::Refused(_) => numbers,
     }
 }
 
@@ -234,7 +238,7 @@ pub extern "C" fn sf_write(terms: &[u16], scan: &[u16], out: &mut [u8], value: &
     tell(files::write(terms, scan, out), value)
 }
 
-// Reads a scan file; see files::read. Refuses 11, 7, 8, 9, 6, 10; the samples and the terms go to their slices, their numbers to
+// Reads a scan file; see files::read. Refuses 15 to 18, 7, 8, 9, 6, 10; the samples and the terms go to their slices, their numbers to
 // `value` and `terms_read`.
 #[no_mangle]
 pub extern "C" fn sf_read(
@@ -256,7 +260,7 @@ pub extern "C" fn sf_read(
     tell(samples_in(answer), value)
 }
 
-// Counts for the report from a scan file; see reports::count. Refuses 11, 7, 8, 9; the five numbers go to `counts` in the printed
+// Counts for the report from a scan file; see reports::count. Refuses 15 to 18, 7, 8, 9; the five numbers go to `counts` in the printed
 // order, the number of samples to `value`.
 #[no_mangle]
 pub extern "C" fn sf_count(file: &[u8], counts: &mut [u64; 5], value: &mut usize) -> u8
@@ -280,7 +284,7 @@ pub extern "C" fn sf_line(file: &[u8], out: &mut [u8], value: &mut usize) -> u8
     tell(lines::line(file, out), value)
 }
 
-// ---- the night sheet, its totals eleven numbers in the order of its last line
+// ---- the night sheet, its totals fourteen numbers in the order of its last line
 
 // Checks a list of file names; see lists::check. Refuses 20, 19; the number of names goes to `value`.
 #[no_mangle]
@@ -295,7 +299,7 @@ pub extern "C" fn sf_night_list(text: &[u8], value: &mut usize) -> u8
 #[no_mangle]
 pub extern "C" fn sf_night_line(
     file: &[u8],
-    totals: &mut [u64; 11],
+    totals: &mut [u64; NUMBERS],
     out: &mut [u8],
     value: &mut usize,
 ) -> u8
@@ -310,7 +314,11 @@ pub extern "C" fn sf_night_line(
 
 // The same for a file that could not be opened or read.
 #[no_mangle]
-pub extern "C" fn sf_night_unopened(totals: &mut [u64; 11], out: &mut [u8], value: &mut usize) -> u8
+pub extern "C" fn sf_night_unopened(
+    totals: &mut [u64; NUMBERS],
+    out: &mut [u8],
+    value: &mut usize,
+) -> u8
     ensures { λ r. ⌜ Told (Writes lineBytes (outcomeLine Unopened) (now (out .entry)) (now (out .exit))) r (now (value .exit))
         × (now (totals .exit) ≡ summed (now (totals .entry)) Unopened (length (now (out .entry)))) ⌝ }
 {
@@ -320,7 +328,7 @@ pub extern "C" fn sf_night_unopened(totals: &mut [u64; 11], out: &mut [u8], valu
 
 // The sheet's last line; see lines::totals_line. Refuses 10; the line goes to `out`, its length to `value`.
 #[no_mangle]
-pub extern "C" fn sf_night_totals(totals: &[u64; 11], out: &mut [u8], value: &mut usize) -> u8
+pub extern "C" fn sf_night_totals(totals: &[u64; NUMBERS], out: &mut [u8], value: &mut usize) -> u8
     ensures { λ r. ⌜ Told (Writes totalsBytes (totalsLine (totalsIn (now (totals .entry)))) (now (out .entry)) (now (out .exit)))
         r (now (value .exit)) ⌝ }
 {

@@ -16,7 +16,8 @@ use Rattle.forms.specs.Check.{formChecked}
 use Rattle.files.specs.declared.Family.{Family}
 use Rattle.files.specs.Layout.{fileLength, termCount, sampleCount, fileTerms}
 use Rattle.files.specs.Files.{layoutChecked, fileChecked, slicesChecked, readChecked, writeChecked}
-use Rattle.files.proofs.Layouts.{Laid, well-laid, laid-well}
+use Rattle.files.specs.Causes.{Laid}
+use Rattle.files.proofs.Layouts.{well-laid, laid-well}
 
 or-else-assoc : (a b c : Checked) → orElse (orElse a b) c ≡ orElse a (orElse b c)
 or-else-assoc Fine b c = refl

@@ -15,7 +15,8 @@ use Rattle.files.specs.Bytes.{twoBytes, fourBytes, inWords, wordAt, long
 use Rattle.files.specs.Layout.{countsFamily}
 use Rattle.files.specs.Layout.{samplesBack, termsBack, termCount, termsDistance, fileTerms}
 use Rattle.files.specs.Layout.{fileLength, sampleCount, trailer, fileOf, fileSamples, countsFile}
-use Rattle.files.proofs.Layouts.{length-most, Laid, whole, first-term, terms-counted, samples-counted, samples-lie}
+use Rattle.files.specs.Causes.{Laid}
+use Rattle.files.proofs.Layouts.{length-most, whole, first-term, terms-counted, samples-counted, samples-lie}
 use Rattle.files.proofs.Stores.{longBytes, length-in-words, length-file}
 use Rattle.files.proofs.Words.{Bytes, word-behind, long-behind, words-back, word-bytes, long-bytes, words-bytes}
 

@@ -1,16 +1,16 @@
 -- What a file that is laid out well tells: its conditions as facts, and where its samples and terms lie. Over the family.
 -- Assumes nothing.
 use mathlib.Core.Path.{_≡_}
-use mathlib.Core.Bool.{Bool, true, not, _&&_}
+use mathlib.Core.Bool.{Bool, true, false, not, _&&_}
 use mathlib.Core.List.{List}
-use Prim.Native.Nat.{ℕ, _+_, _-_, _*_, _%_, _≤_}
+use Prim.Native.Nat.{ℕ, _+_, _-_, _*_, _≤_, _<_}
 use native.Mathlib.Nat.{mul-le-mul-left, div-add-mod}
 use native.Mathlib.Omega.{arith}
 use lib.Dec.{leb, eqb}
 use lib.ListN.{length}
-use borrow.Author.Tests.{leb-true, le-leb, eqb-true, eq-eqb, not-false}
-use Rattle.limits.specs.Limits.{wordBytes, trailerBytes, mostTerms}
-use Rattle.theory.proofs.Tests.{and-left, and-right}
+use borrow.Author.Tests.{leb-true, le-leb, lt-leb, eqb-true, eq-eqb, not-false}
+use Rattle.limits.specs.Limits.{wordBytes, trailerBytes, mostTerms, longestFile}
+use Rattle.theory.proofs.Tests.{and-left, and-right, and-false}
 use Rattle.theory.proofs.Lists.{length-tab}
 use Rattle.refusals.specs.Refusals.{refuseIf}
 use Rattle.refusals.specs.declared.Checked.the-variants.{Fine}
@@ -21,6 +21,7 @@ use Rattle.files.specs.Layout.{countsFamily, samplesBack, termsBack, ter
 use Rattle.files.specs.Private.{Usable}
 use Rattle.files.specs.Layout.{fileLength, sized, marked, pointsAtSamples, sampleCount, fileSamples}
 use Rattle.files.specs.Files.{layoutChecked}
+use Rattle.files.specs.Causes.{Laid}
 
 pub counts-usable : Usable countsFamily
 unfolding fileLength termsDistance
@@ -31,16 +32,6 @@ pub length-most : (family : Family) (samples terms : ℕ) → samples ≤ family
     → fileLength family samples terms ≤ fileLength family (family .most) mostTerms
 unfolding fileLength termsDistance
 length-most family samples terms short few = omega (arith, mul-le-mul-left (family .bytes) short)
-
--- the listed conditions, as facts
-pub record Laid (family : Family) (f : List ℕ) : Type 0 where
-  pub long-enough : trailerBytes ≤ length f
-  pub short-enough : length f ≤ fileLength family (family .most) mostTerms
-  pub mark : wordAt f (length f - wordBytes) ≡ family .mark
-  pub to-terms : termsBack f ≡ termsDistance (termCount f)
-  pub to-samples : samplesBack f ≡ length f
-  pub in-order : termsBack f ≤ samplesBack f
-  pub whole-samples : (samplesBack f - termsBack f) % family .bytes ≡ 0
 
 -- where nothing is refused, the condition holds
 holds : (b : Bool) (n p : ℕ) → refuseIf (not b) n p ≡ Fine → b ≡ true
@@ -83,6 +74,11 @@ module _ (family : Family) (f : List ℕ) where
   pub sized-long : sized family f ≡ true → trailerBytes ≤ length f
   unfolding sized
   sized-long e = leb-true _ _ (and-left _ _ e)
+
+-- a file of counts that is longer than the longest
+pub too-long : (f : List ℕ) → longestFile < length f → sized countsFamily f ≡ false
+unfolding sized fileLength termsDistance
+too-long f long = rw (lt-leb _ _ long) (and-false (leb trailerBytes (length f)))
 
 -- ---- where the samples and the terms lie
 

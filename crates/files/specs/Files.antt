@@ -15,18 +15,18 @@ use Rattle.forms.specs.Check.{formChecked}
 use Rattle.files.specs.declared.Family.{Family}
 use Rattle.files.specs.declared.ReadAnswer.{ReadAnswer}
 use Rattle.files.specs.declared.ReadAnswer.the-variants as answer
-use Rattle.files.specs.Layout.{countsFamily, termCount, pointsAtTerms, fileTerms}
+use Rattle.files.specs.Layout.{countsFamily, samplesField, termsField, markField, termCount, pointsAtTerms, fileTerms}
 use Rattle.files.specs.Layout.{fileLength, sized, marked, pointsAtSamples, sampleCount, fileSamples, countsFile}
 
 module _ (family : Family) where
-  -- 11, of the file's layout: its length, its mark, its term distance, its sample distance
+  -- 15, of the file's length, then 16, 17 and 18, of its mark, its term distance and its sample distance, each at the field's first byte
   unfoldable pub layoutChecked : List ℕ → Checked
   layoutChecked f =
-      orElse (refuseIf (not (sized family f)) 11 0)
-      (orElse (refuseIf (not (marked family f)) 11 0)
-      (orElse (refuseIf (not (pointsAtTerms f)) 11 0) (refuseIf (not (pointsAtSamples family f)) 11 0)))
+      orElse (refuseIf (not (sized family f)) 15 (length f))
+      (orElse (refuseIf (not (marked family f)) 16 (markField f))
+      (orElse (refuseIf (not (pointsAtTerms f)) 17 (termsField f)) (refuseIf (not (pointsAtSamples family f)) 18 (samplesField f))))
 
-  -- 11, 7, 8, 9, in this order: what a file by itself is refused for
+  -- 15 to 18, 7, 8, 9, in this order: what a file by itself is refused for
   unfoldable pub fileChecked : List ℕ → Checked
   fileChecked f = orElse (layoutChecked f) (orElse (formChecked width (fileTerms f)) (scanChecked (family .most) (sampleCount family f)))
 
@@ -35,7 +35,7 @@ module _ (family : Family) where
   slicesChecked f samples terms =
       orElse (roomChecked (termCount f) terms) (refuseIf (ltb samples (sampleCount family f)) 10 (sampleCount family f))
 
-  -- reading: 11, 7, 8, 9, 6, 10
+  -- reading: 15 to 18, 7, 8, 9, 6, 10
   unfoldable pub readChecked : List ℕ → ℕ → ℕ → Checked
   readChecked f samples terms = orElse (fileChecked f) (slicesChecked f samples terms)
 

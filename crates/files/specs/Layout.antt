@@ -12,19 +12,33 @@ use Rattle.files.specs.Bytes.{twoBytes, fourBytes, inWords, wordAt, long
 abbrev pub countsFamily : Family
 countsFamily = record { bytes = wordBytes; mark = 0x4653; most = mostSamples }
 
--- ---- what a file's trailer says: two distances of four bytes each, the number of terms, and the mark
+-- ---- where the trailer's fields begin, from the file's start: two distances of four bytes each, the number of terms, and the mark
+
+abbrev pub samplesField : List ℕ → ℕ
+samplesField f = length f - trailerBytes
+
+abbrev pub termsField : List ℕ → ℕ
+termsField f = length f - (trailerBytes - 2 * wordBytes)
+
+abbrev pub countField : List ℕ → ℕ
+countField f = length f - (2 * wordBytes)
+
+abbrev pub markField : List ℕ → ℕ
+markField f = length f - wordBytes
+
+-- ---- what they say
 
 -- the distance from the file's end to the first sample
 unfoldable pub samplesBack : List ℕ → ℕ
-samplesBack f = longAt f (length f - trailerBytes)
+samplesBack f = longAt f (samplesField f)
 
 -- the distance from the file's end to the first term
 unfoldable pub termsBack : List ℕ → ℕ
-termsBack f = longAt f (length f - (trailerBytes - 2 * wordBytes))
+termsBack f = longAt f (termsField f)
 
 -- the number of terms
 unfoldable pub termCount : List ℕ → ℕ
-termCount f = wordAt f (length f - (2 * wordBytes))
+termCount f = wordAt f (countField f)
 
 -- the distance that so many terms and the trailer need
 unfoldable pub termsDistance : ℕ → ℕ
@@ -51,7 +65,7 @@ module _ (family : Family) where
 
   -- the mark ends the file
   unfoldable pub marked : List ℕ → Bool
-  marked f = eqb (wordAt f (length f - wordBytes)) (family .mark)
+  marked f = eqb (wordAt f (markField f)) (family .mark)
 
   -- pointsAtTerms above; then: the sample distance is the file length, is not below the term distance, and differs from it by a multiple of
   -- the bytes a sample

@@ -1,5 +1,6 @@
--- What the contracts of the scan file cite, and what private contracts alone cite.
+-- What the contracts of the scan file cite, what private contracts alone cite, and the words of the layout's laws.
 pub mod Bytes
 pub mod Layout
 pub mod Files
 pub mod Private
+pub mod Causes

@@ -139,21 +139,31 @@ fn points_at_samples(family: Family, file: &[u8]) -> bool
     (to_samples == file.len()) & ((to_samples - to_terms) % family.bytes == 0)
 }
 
-// Refusal 11 of the layout: the length, the mark, the term distance, the sample distance.
+// Refusals 15 to 18 of the layout: the length, then the mark, the term distance and the sample distance, each at the field's first
+// byte.
 fn check_layout(family: Family, file: &[u8]) -> Checked
     requires { ⌜ Usable family ⌝ }
     ensures { λ r. ⌜ r ≡ layoutChecked family (now (file .entry)) ⌝ }
 {
     if is_sized(family, file) {
-        let mark = word_at(file, file.len() - MARK_FIELD);
-        let marked = refusals::refuse_if(mark != family.mark, refusals::LAYOUT, 0);
-        let to_terms = refusals::refuse_if(!points_at_terms(file), refusals::LAYOUT, 0);
-        let to_samples = refusals::refuse_if(!points_at_samples(family, file), refusals::LAYOUT, 0);
+        let end = file.len();
+        let mark = word_at(file, end - MARK_FIELD);
+        let marked = refusals::refuse_if(mark != family.mark, refusals::MARK, end - MARK_FIELD);
+        let to_terms = refusals::refuse_if(
+            !points_at_terms(file),
+            refusals::TERM_DISTANCE,
+            end - TERMS_FIELD,
+        );
+        let to_samples = refusals::refuse_if(
+            !points_at_samples(family, file),
+            refusals::SAMPLE_DISTANCE,
+            end - SAMPLES_FIELD,
+        );
         return refusals::or_else(marked, refusals::or_else(to_terms, to_samples));
     }
     Checked::Refused(Refusal {
-        number: refusals::LAYOUT,
-        place: 0,
+        number: refusals::FILE_LENGTH,
+        place: file.len(),
     })
 }
 
@@ -217,7 +227,7 @@ fn check_contents(family: Family, file: &[u8]) -> Checked
     )
 }
 
-// What a file by itself is refused for: 11 where it is badly laid out, 7 and 8 of its terms, and 9 of its samples, in
+// What a file by itself is refused for: 15 to 18 where it is badly laid out, 7 and 8 of its terms, and 9 of its samples, in
 // this order.
 fn check_file(family: Family, file: &[u8]) -> Checked
     requires { ⌜ Usable family ⌝ }
@@ -263,9 +273,9 @@ fn fill_slices(file: &[u8], samples: &mut [u16], terms: &mut [u16]) -> ReadAnswe
 }
 
 // Reads a file: its samples go to the start of one slice and its terms to the start of the other, and elements behind
-// them keep their values. Answers how many samples and terms there are. Refuses 11 for a file that is badly laid out, 7
-// and 8 of its terms, 9 of its samples, 6 where fewer elements are lent for terms, and 10 where fewer are lent for
-// samples, in this order; after a refusal neither slice has changed.
+// them keep their values. Answers how many samples and terms there are. Refuses 15 for the file's length, 16 for its mark, 17
+// for its term distance, 18 for its sample distance, 7 and 8 of its terms, 9 of its samples, 6 where fewer elements are lent
+// for terms, and 10 where fewer are lent for samples, in this order; after a refusal neither slice has changed.
 pub fn read(file: &[u8], samples: &mut [u16], terms: &mut [u16]) -> ReadAnswer
     ensures { λ r. ⌜ Read (now (file .entry))
         (now (samples .entry)) (now (samples .exit)) (now (terms .entry)) (now (terms .exit)) r ⌝ }

@@ -2,17 +2,18 @@
 -- Assumes nothing.
 use Prim.Native.Nat.{ℕ}
 use native.Mathlib.Omega.{arith}
-use mathlib.Core.Path.{_≡_, refl, sym, ap, _∙_, subst}
+use mathlib.Core.Path.{_≡_, refl, sym, ap, _∙_}
 use mathlib.Core.Bool.{Bool, true, not}
 use mathlib.Core.List.{List, [], _∷_, _++_, append-assoc}
 use lib.Dec.{eqb}
 use borrow.Author.Tests.{ne-eqb}
 use Rattle.theory.specs.Lists.{all}
 use Rattle.theory.proofs.Tests.{and-left, and-right, and-both}
+use Rattle.reports.specs.Counts.{fileCounted}
 use Rattle.totals.specs.declared.Outcome.{Outcome}
+use Rattle.totals.specs.declared.Outcome.the-variants.{Opened}
 use Rattle.totals.specs.declared.Totals.{Totals}
-use Rattle.lines.specs.Lines.{lineOf, reportLine, outcomeLine, elevenOf, totalsLine}
-use Rattle.lines.proofs.Counted.{line-counted}
+use Rattle.lines.specs.Lines.{lineOf, reportLine, outcomeLine, inOrder, totalsLine}
 use Rattle.lines.proofs.Fields.{Each, each-so, fields, wordsOf, numbersOf, outcome-fields, totals-fields}
 use Rattle.lines.proofs.Inside.{Inside, words-inside, fields-inside}
 
@@ -64,8 +65,8 @@ outcome-feed o = rw (outcome-fields o) (fields-feed (wordsOf o) (numbersOf o) (w
 
 -- the line of any totals does
 pub totals-feed : (t : Totals) → OneFeed (totalsLine t)
-totals-feed t = rw (totals-fields t) (fields-feed [] (elevenOf t) tt)
+totals-feed t = rw (totals-fields t) (fields-feed [] (inOrder t) tt)
 
 -- the line of any file does
 pub line-feed : (f : List ℕ) → OneFeed (reportLine f)
-line-feed f = subst OneFeed (line-counted f refl) (outcome-feed _)
+line-feed f = outcome-feed (Opened (fileCounted f))

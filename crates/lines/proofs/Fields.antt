@@ -8,7 +8,7 @@ use Rattle.totals.specs.declared.Outcome.{Outcome}
 use Rattle.totals.specs.declared.Outcome.the-variants.{Unopened, Opened}
 use Rattle.totals.specs.declared.Totals.{Totals}
 use Rattle.lines.specs.Lines.{decimal, lineOf, countsLine, refusedWord, refusedLine, unopenedWord, unopenedLine, outcomeLine}
-use Rattle.lines.specs.Lines.{elevenOf, totalsLine}
+use Rattle.lines.specs.Lines.{inOrder, totalsLine}
 
 -- it holds of each element
 abbrev pub Each : {A : Type 0} → (A → Type 0) → List A → Type 0
@@ -55,6 +55,6 @@ outcome-fields Unopened = refl
 outcome-fields (Opened (Counted c)) = refl
 outcome-fields (Opened (Refused r)) = refl
 
-pub totals-fields : (t : Totals) → totalsLine t ≡ lineOf (fields [] (elevenOf t))
+pub totals-fields : (t : Totals) → totalsLine t ≡ lineOf (fields [] (inOrder t))
 unfolding totalsLine
 totals-fields t = refl

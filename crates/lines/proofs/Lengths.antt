@@ -1,10 +1,10 @@
--- How long a line is: those of any file of bytes and of any totals fit in their rooms, so that slices of 128 and 512 bytes are always enough.
+-- How long a line is: those of any file whose length, and of any totals that, fit in 64 bits have room in 128 and in 512 bytes.
 -- Assumes nothing.
 use Prim.Native.Nat.{ℕ, _+_, _*_, _^_, _≤_, _<_}
 use native.Mathlib.Nat.{le-trans}
 use native.Mathlib.Omega.{arith}
-use mathlib.Core.Path.{_≡_, refl, ap, _∙_, subst}
-use mathlib.Core.List.{List, [], _∷_}
+use mathlib.Core.Path.{_≡_, ap, _∙_}
+use mathlib.Core.List.{List, [], _∷_, _++_}
 use lib.Dec.{lit≤}
 use lib.ListN.{length, drop, length-append}
 use Rattle.limits.specs.Limits.{lineBytes, totalsBytes}
@@ -14,16 +14,16 @@ use Rattle.refusals.specs.Promise.{Gives}
 use Rattle.refusals.proofs.Checks.{done-fine}
 use Rattle.files.proofs.Words.{Bytes}
 use Rattle.reports.specs.declared.CountAnswer.the-variants.{Counted, Refused}
+use Rattle.reports.specs.Counts.{fileCounted}
 use Rattle.totals.specs.declared.Outcome.{Outcome}
 use Rattle.totals.specs.declared.Outcome.the-variants.{Unopened, Opened}
 use Rattle.totals.specs.declared.Totals.{Totals}
-use Rattle.totals.specs.Nights.{OfFile, opened}
-use Rattle.totals.proofs.Fields.{Field, at, cleaned, unopened, seven, eight, nine, eleven, samples, changed, spikes, up, down}
-use Rattle.lines.specs.Lines.{decimal, lineOf, refusedWord, unopenedWord, reportLine, outcomeLine, elevenOf, totalsLine}
+use Rattle.totals.proofs.Fields.{Field, at, cleaned, unopened, seven, eight, nine, fifteen, sixteen, seventeen, eighteen}
+use Rattle.totals.proofs.Fields.{samples, changed, spikes, up, down}
+use Rattle.lines.specs.Lines.{decimal, lineOf, refusedWord, unopenedWord, reportLine, outcomeLine, inOrder, totalsLine}
 use Rattle.lines.proofs.Decimals.{length-decimal, digits-short}
-use Rattle.lines.proofs.Counted.{line-counted}
 use Rattle.lines.proofs.Bounds.{numbers-fit}
-use Rattle.lines.proofs.Fields.{Each, each-so, Fits, fields, each-field, wordsOf, numbersOf, outcome-fields, totals-fields}
+use Rattle.lines.proofs.Fields.{Each, each-all, each-so, Fits, fields, each-field, wordsOf, numbersOf, outcome-fields, totals-fields}
 
 number-most : (n : ℕ) → n < 2 ^ 64 → length (decimal n) ≤ 20
 number-most n h = omega (arith, length-decimal n, digits-short n h)
@@ -59,20 +59,17 @@ few-fields (Opened (Refused r)) = lit≤ tt
 pub outcome-short : (o : Outcome) → Each Fits (numbersOf o) → length (outcomeLine o) ≤ lineBytes
 outcome-short o h = rw (outcome-fields o) (line-most lineBytes (wordsOf o) (numbersOf o) (short-words o) h (few-fields o))
 
--- that of whatever becomes of a file of bytes does
-pub file-short : {o : Outcome} → OfFile o → length (outcomeLine o) ≤ lineBytes
-file-short {o} h = outcome-short o (numbers-fit h)
-
--- and so does the report's line
-pub line-short : (f : List ℕ) → Bytes f → length (reportLine f) ≤ lineBytes
-line-short f bytes = subst (λ (line : List ℕ). length line ≤ lineBytes) (line-counted f refl) (file-short (opened f bytes _ refl))
+-- so has that of a file of bytes whose length is of 64 bits
+pub line-short : (f : List ℕ) → Bytes f → Fits (length f) → length (reportLine f) ≤ lineBytes
+line-short f bytes fits = outcome-short (Opened (fileCounted f)) (numbers-fit f bytes fits)
 
 -- the line of any totals of 64 bits has room in 512
 pub totals-short : (t : Totals) → ((field : Field) → Fits (at field t)) → length (totalsLine t) ≤ totalsBytes
 totals-short t h =
-    let each : Each Fits (elevenOf t) =
-    (h cleaned, (h unopened, (h seven, (h eight, (h nine, (h eleven, (h samples, (h changed, (h spikes, (h up, (h down, tt))))))))))) in
-    rw (totals-fields t) (line-most totalsBytes [] (elevenOf t) tt each (lit≤ tt))
+    let files = cleaned ∷ unopened ∷ seven ∷ eight ∷ nine ∷ fifteen ∷ sixteen ∷ seventeen ∷ eighteen ∷ [] in
+    let sums = samples ∷ changed ∷ spikes ∷ up ∷ down ∷ [] in
+    let each : Each Fits (inOrder t) = each-all h (files ++ sums) in
+    rw (totals-fields t) (line-most totalsBytes [] (inOrder t) tt each (lit≤ tt))
 
 -- a text that a call writes: where the slice keeps its length, as slices do, the answer lies in it
 pub line-fits : {check : ℕ → Checked} (text old new : List ℕ) (n : ℕ) → Gives check (length text) text old new (Done n)

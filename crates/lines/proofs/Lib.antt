@@ -2,7 +2,6 @@
 pub mod Decimals
 pub mod Numbers
 pub mod Puts
-pub mod Counted
 pub mod Fields
 pub mod Inside
 pub mod Decided

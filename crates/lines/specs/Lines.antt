@@ -9,14 +9,11 @@ use Rattle.limits.specs.Limits.{lineBytes}
 use Rattle.theory.specs.Lists.{first}
 use Rattle.refusals.specs.declared.Refusal.{Refusal}
 use Rattle.refusals.specs.declared.Answer.{Answer}
-use Rattle.refusals.specs.Refusals.{answered}
 use Rattle.refusals.specs.Shared.{lentChecked}
 use Rattle.refusals.specs.Promise.{Gives}
-use Rattle.files.specs.Layout.{countsFamily}
-use Rattle.files.specs.Files.{fileChecked}
 use Rattle.reports.specs.declared.Counts.{Counts}
 use Rattle.reports.specs.declared.CountAnswer.the-variants.{Counted, Refused}
-use Rattle.reports.specs.Counts.{countsIn}
+use Rattle.reports.specs.Counts.{fileCounted}
 use Rattle.totals.specs.declared.Outcome.{Outcome}
 use Rattle.totals.specs.declared.Outcome.the-variants.{Unopened, Opened}
 use Rattle.totals.specs.declared.Totals.{Totals}
@@ -48,10 +45,6 @@ refusedWord = 114 ∷ 101 ∷ 102 ∷ 117 ∷ 115 ∷ 101 ∷ 100 ∷ []
 unfoldable pub refusedLine : Refusal → List ℕ
 refusedLine r = lineOf (refusedWord ∷ decimal (r .number) ∷ decimal (r .place) ∷ [])
 
--- the line of the file f: its counts, or why it is refused
-unfoldable pub reportLine : List ℕ → List ℕ
-reportLine f = answered (fileChecked countsFamily f) (countsLine (countsIn f)) refusedLine
-
 -- the word `unopened`
 unfoldable pub unopenedWord : List ℕ
 unopenedWord = 117 ∷ 110 ∷ 111 ∷ 112 ∷ 101 ∷ 110 ∷ 101 ∷ 100 ∷ []
@@ -66,15 +59,20 @@ outcomeLine Unopened = unopenedLine
 outcomeLine (Opened (Counted c)) = countsLine c
 outcomeLine (Opened (Refused r)) = refusedLine r
 
--- the totals in the order of the night sheet's last line: the files cleaned, not opened, refused under 7, 8, 9 and 11; then the sums, in the
--- order of a file's counts
-abbrev pub elevenOf : Totals → List ℕ
-elevenOf t =
-    t .cleaned ∷ t .unopened ∷ t .seven ∷ t .eight ∷ t .nine ∷ t .eleven ∷ t .samples ∷ t .changed ∷ t .spikes ∷ t .up ∷ t .down ∷ []
+-- the report's line of the file f: that of what counting it answers
+abbrev pub reportLine : List ℕ → List ℕ
+reportLine f = outcomeLine (Opened (fileCounted f))
 
--- the night sheet's last line: eleven numbers
+-- the totals in the order of the night sheet's last line: the files cleaned, not opened, refused under 7, 8, 9, 15, 16, 17 and 18; then the
+-- sums, in the order of a file's counts
+abbrev pub inOrder : Totals → List ℕ
+inOrder t =
+    t .cleaned ∷ t .unopened ∷ t .seven ∷ t .eight ∷ t .nine ∷ t .fifteen ∷ t .sixteen ∷ t .seventeen ∷ t .eighteen
+    ∷ t .samples ∷ t .changed ∷ t .spikes ∷ t .up ∷ t .down ∷ []
+
+-- the night sheet's last line: its totals
 unfoldable pub totalsLine : Totals → List ℕ
-totalsLine t = lineOf (map decimal (elevenOf t))
+totalsLine t = lineOf (map decimal (inOrder t))
 
 -- a line from the start of the slice lent, and its length; 10 where the slice has another length than the room that it wants
 abbrev pub Writes : ℕ → List ℕ → List ℕ → List ℕ → Answer → Type 0

@@ -16,7 +16,7 @@ ghost use Prim.Native.Nat.{_+_, _*_, _≤_, _<_};
 ghost use lib.ListN.{length};
 ghost use Rattle.limits.specs.Limits.{lineBytes, totalsBytes};
 ghost use Rattle.totals.specs.declared.Outcome.the-variants.{Opened};
-ghost use Rattle.lines.specs.Lines.{decimal, lineOf, countsLine, refusedLine, outcomeLine, elevenOf, totalsLine, Writes, Line};
+ghost use Rattle.lines.specs.Lines.{decimal, lineOf, countsLine, refusedLine, outcomeLine, inOrder, totalsLine, Writes, Line};
 ghost use Rattle.lines.specs.Private.{Put};
 
 const SPACE: u8 = b' ';
@@ -24,6 +24,8 @@ const SPACE: u8 = b' ';
 const LINE_FEED: u8 = b'\n';
 // A number of 64 bits has at most so many digits.
 const DIGITS: usize = 20;
+// The night sheet's last line has so many numbers.
+pub const NUMBERS: usize = 14;
 
 // Puts a field and the byte behind it, and answers where the next one begins.
 fn put_field(field: &[u8], end: u8, at: usize, out: &mut [u8]) -> usize
@@ -112,8 +114,8 @@ fn put_outcome(outcome: Outcome, out: &mut [u8]) -> usize
 }
 
 // The totals in the order of the night sheet's last line.
-pub fn eleven_of(totals: Totals) -> [u64; 11]
-    ensures { λ r. ⌜ r ≡ elevenOf totals ⌝ }
+pub fn in_order(totals: Totals) -> [u64; NUMBERS]
+    ensures { λ r. ⌜ r ≡ inOrder totals ⌝ }
 {
     [
         totals.cleaned,
@@ -121,7 +123,10 @@ pub fn eleven_of(totals: Totals) -> [u64; 11]
         totals.seven,
         totals.eight,
         totals.nine,
-        totals.eleven,
+        totals.fifteen,
+        totals.sixteen,
+        totals.seventeen,
+        totals.eighteen,
         totals.samples,
         totals.changed,
         totals.spikes,
@@ -135,7 +140,7 @@ fn put_totals(totals: Totals, out: &mut [u8]) -> usize
     requires { ⌜ length (now out) ≡ totalsBytes ⌝ }
     ensures { λ r. ⌜ Put (totalsLine totals) 0 (now (out .entry)) (now (out .exit)) r ⌝ }
 {
-    put_numbers(&eleven_of(totals), 0, out)
+    put_numbers(&in_order(totals), 0, out)
 }
 
 // Writes the night sheet's line of a file: `unopened`, the five counts, or `refused`, number, place.
@@ -165,7 +170,7 @@ pub fn line(file: &[u8], out: &mut [u8]) -> Answer
     outcome_line(Outcome::Opened(reports::count(file)), out)
 }
 
-// Writes the night sheet's last line: eleven numbers. Refuses 10 where the slice has not 512 bytes, more than any such line has.
+// Writes the night sheet's last line: its totals. Refuses 10 where the slice has not 512 bytes, more than any such line has.
 pub fn totals_line(totals: Totals, out: &mut [u8]) -> Answer
     ensures { λ r. ⌜ Writes totalsBytes (totalsLine totals) (now (out .entry)) (now (out .exit)) r ⌝ }
 {

@@ -3,6 +3,7 @@
 //
 // The list is judged whole before any file is opened, and a refused one prints the one line of its refusal. A name that is not a
 // regular file's, such as a folder's or a pipe's, is `unopened`, and so is a file that cannot be opened or read; the night goes on.
+// The line of a file that is too long says its whole length, which the system tells, so no more of it is read than shows that.
 //
 // Where the list cannot be read nothing is printed; where a line cannot be written whole, the sheet ends there. Both are said on standard
 // error, and so is how the program is used where it is given an argument. A Rattle program has no exit status: a script takes the
@@ -10,23 +11,30 @@
 use libc::EINTR;
 use libc::STDIN_FILENO;
 use limits::LINE_BYTES;
+use limits::LONGEST_FILE;
 use limits::LONGEST_LIST;
 use limits::TOTALS_BYTES;
 use lists::Judge;
 use refusals::Answer;
 use refusals::Checked;
 use refusals::Refusal;
+use system::FILE_ROOM;
 use system::MOST_READS;
 use totals::Outcome;
 use totals::Totals;
 ghost use mathlib.Core.Path.{_≡_};
-ghost use Prim.Native.Nat.{_+_, _≤_};
+ghost use mathlib.Core.List.{List};
+ghost use Prim.Native.Nat.{ℕ, _+_, _≤_};
 ghost use lib.ListN.{length};
 ghost use Rattle.io.specs.Counts.{Counts};
 ghost use Rattle.limits.specs.Limits.{longestList};
 ghost use Rattle.refusals.specs.declared.Checked.the-variants.{Fine};
+ghost use Rattle.reports.specs.Counts.{fileCounted};
 ghost use Rattle.lists.specs.Names.{listChecked};
+ghost use Rattle.totals.specs.declared.Outcome.the-variants.{Opened};
 ghost use Rattle.totals.specs.Nights.{OfFile};
+ghost use Rattle.system.specs.Reads.{Kept};
+ghost use Rattle.system.specs.Private.{IsRead};
 ghost use Rattle.night.specs.Private.{nextPlace, Judged, Accepts, Within, OfList};
 
 // One byte more than the longest list that is accepted has, so that one which fills it is refused.
@@ -104,15 +112,20 @@ fn read_list(text: &mut [u8]) -> Reading
 
 // ---- the files
 
-// What becomes of a file that was read.
-fn outcome_of_bytes(file: &[u8]) -> Outcome
+// What becomes of a file that was read. Of one that is too long, its length alone decides.
+fn outcome_of_read(length: usize, room: &[u8]) -> Outcome
+    requires { ⌜ Kept length (now room) ⌝ }
     ensures { λ r. ⌜ OfFile r ⌝ }
+    ensures { λ r. ⌜ ((f : List ℕ) → IsRead length (now (room .entry)) f → r ≡ Opened (fileCounted f)) ⌝ }
 {
-    Outcome::Opened(reports::count(file))
+    if LONGEST_FILE < length {
+        return Outcome::Opened(reports::refuse_length(length));
+    }
+    Outcome::Opened(reports::count(&room[..length]))
 }
 
 // What becomes of a file. It is closed before this answers.
-fn outcome_of(name: &[u8], file: &mut [u8]) -> Outcome
+fn outcome_of(name: &[u8], room: &mut [u8; FILE_ROOM]) -> Outcome
     ensures { λ r. ⌜ OfFile r ⌝ }
 {
     if !system::is_file(name) {
@@ -122,13 +135,12 @@ fn outcome_of(name: &[u8], file: &mut [u8]) -> Outcome
     if fd < 0 {
         return Outcome::Unopened;
     }
-    let read = system::read_all(fd, file);
+    let read = system::read_file(fd, room);
     libc::close(fd);
     if read.error != 0 {
         return Outcome::Unopened;
     }
-    let n = read.bytes;
-    outcome_of_bytes(&file[..n])
+    outcome_of_read(read.bytes, room)
 }
 
 // ---- the sheet
@@ -172,7 +184,7 @@ enum Printed {
 }
 
 // Prints the line of each file of a list that is accepted, up to one that cannot be written.
-fn print_files(text: &[u8], file: &mut [u8]) -> Printed
+fn print_files(text: &[u8], room: &mut [u8; FILE_ROOM]) -> Printed
     requires { ⌜ listChecked (now text) ≡ Fine ⌝ }
     ensures { λ r. ⌜ OfList (now (text .entry)) r ⌝ }
 {
@@ -180,7 +192,7 @@ fn print_files(text: &[u8], file: &mut [u8]) -> Printed
     let mut place = 0;
     while place < text.len() {
         let end = lists::line_end(text, place);
-        let outcome = outcome_of(&text[place..end], file);
+        let outcome = outcome_of(&text[place..end], room);
         if !print_outcome(outcome) {
             return Printed::Stopped;
         }
@@ -191,10 +203,10 @@ fn print_files(text: &[u8], file: &mut [u8]) -> Printed
 }
 
 // Prints the sheet of a list that is accepted. Where a line could not be written it has no last line.
-fn print_sheet(text: &[u8], file: &mut [u8])
+fn print_sheet(text: &[u8], room: &mut [u8; FILE_ROOM])
     requires { ⌜ listChecked (now text) ≡ Fine ⌝ }
 {
-    let printed = print_files(text, file);
+    let printed = print_files(text, room);
     if let Printed::Whole(totals) = printed {
         print_totals(totals);
     }
@@ -220,6 +232,6 @@ fn main() {
         return;
     }
     let n = reading.bytes;
-    let mut file = system::file_room();
-    print_sheet(&text[..n], &mut file);
+    let mut room = system::file_room();
+    print_sheet(&text[..n], &mut room);
 }

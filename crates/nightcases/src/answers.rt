@@ -41,7 +41,10 @@ pub fn summed(totals: Totals) {
     word(totals.seven);
     word(totals.eight);
     word(totals.nine);
-    word(totals.eleven);
+    word(totals.fifteen);
+    word(totals.sixteen);
+    word(totals.seventeen);
+    word(totals.eighteen);
     word(totals.samples);
     word(totals.changed);
     word(totals.spikes);

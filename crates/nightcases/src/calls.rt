@@ -90,7 +90,10 @@ fn read_totals() -> Totals {
     let seven = input::number();
     let eight = input::number();
     let nine = input::number();
-    let eleven = input::number();
+    let fifteen = input::number();
+    let sixteen = input::number();
+    let seventeen = input::number();
+    let eighteen = input::number();
     let counts = read_counts();
     Totals {
         cleaned,
@@ -98,7 +101,10 @@ fn read_totals() -> Totals {
         seven,
         eight,
         nine,
-        eleven,
+        fifteen,
+        sixteen,
+        seventeen,
+        eighteen,
         samples: counts.samples,
         changed: counts.changed,
         spikes: counts.spikes,

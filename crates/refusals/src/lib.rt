@@ -46,20 +46,30 @@ pub enum Answer {
     Refused(Refusal),
 }
 
-// ---- of scans, lent slices, files, truth tables and presets
+// ---- of scans, lent slices, truth tables and presets
 
 // A scan of 0 or over 16,384 samples; the samples.
 pub const SCAN_LENGTH: u8 = 9;
 // An output slice of the wrong length; the length needed.
 pub const OUTPUT_LENGTH: u8 = 10;
-// A scan file is badly laid out; 0.
-pub const LAYOUT: u8 = 11;
 // A truth table is not positive; the least pattern that one more offset turns to 0.
 pub const NOT_POSITIVE: u8 = 12;
 // A truth table slice is not 64 bytes; its length.
 pub const TABLE_LENGTH: u8 = 13;
 // A preset number is over 19; the number.
 pub const PRESET_NUMBER: u8 = 14;
+
+// ---- of a scan file's layout
+
+// A scan file's length is outside 12 to 33,032; the length.
+pub const FILE_LENGTH: u8 = 15;
+// A scan file does not end with the mark; the mark's first byte, from the file's start.
+pub const MARK: u8 = 16;
+// A scan file's term distance is not that of its number of terms; the term distance's first byte.
+pub const TERM_DISTANCE: u8 = 17;
+// A scan file's sample distance is not the file's length, is below the term distance, or leaves a part of a sample before the
+// terms; the sample distance's first byte.
+pub const SAMPLE_DISTANCE: u8 = 18;
 
 // ---- of lists of names
 

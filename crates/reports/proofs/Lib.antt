@@ -6,4 +6,4 @@ pub mod Starts
 pub mod Counted
 pub mod Decided
 pub mod Bounds
-pub mod Refused
+pub mod Lengths

@@ -49,6 +49,10 @@ countsOf n residue = record {
 abbrev pub countsIn : List ℕ → Counts
 countsIn f = countsOf (length (fileSamples f)) (residueAt held (fileTerms f) (fileSamples f))
 
--- counting from the file f: 11, 7, 8, 9, or its counts
+-- what counting from the file f answers: its counts, or why it is refused: 15 to 18, 7, 8, 9
+abbrev pub fileCounted : List ℕ → CountAnswer
+fileCounted f = answered (fileChecked countsFamily f) (answer.Counted (countsIn f)) answer.Refused
+
+-- counting from the file f
 abbrev pub Count : List ℕ → CountAnswer → Type 0
-Count f a = a ≡ answered (fileChecked countsFamily f) (answer.Counted (countsIn f)) answer.Refused
+Count f a = a ≡ fileCounted f

@@ -13,8 +13,10 @@ ghost use lib.ListN.{length, getD};
 ghost use lib.IntN.{pos, _-ℤ_};
 ghost use Rattle.limits.specs.Limits.{mostSamples, mostTerms, top};
 ghost use Rattle.theory.specs.Signals.{held, residueAt};
+ghost use Rattle.refusals.specs.Refusals.{refusal};
 ghost use Rattle.refusals.specs.declared.Checked.the-variants.{Fine};
 ghost use Rattle.scans.specs.Run.{runChecked};
+ghost use Rattle.reports.specs.declared.CountAnswer.the-variants.{Refused};
 ghost use Rattle.reports.specs.Counts.{kindOf, countsOf, Count};
 
 // What the report prints of a file.
@@ -135,12 +137,23 @@ fn read_and_count(file: &[u8], samples: &mut [u16], terms: &mut [u16]) -> CountA
 }
 
 // Counts what the form of a file changes of its scan: the samples, those that changed, the spikes, and the totals of the
-// positive and of the negative residues. Refuses 11 for a file that is badly laid out, 7 and 8 of its terms, and 9 of its
-// samples, in this order.
+// positive and of the negative residues. Refuses 15 for the file's length, 16 for its mark, 17 for its term distance, 18 for its
+// sample distance, 7 and 8 of its terms, and 9 of its samples, in this order.
 pub fn count(file: &[u8]) -> CountAnswer
     ensures { λ r. ⌜ Count (now (file .entry)) r ⌝ }
 {
     let mut samples = room();
     let mut terms = [0u16; MOST_TERMS];
     read_and_count(file, &mut samples, &mut terms)
+}
+
+// What counting answers of every file that is refused for its length (see length-counted in proofs/Lengths.antt): of such a file no
+// byte need be read.
+pub fn refuse_length(length: usize) -> CountAnswer
+    ensures { λ r. ⌜ r ≡ Refused (refusal 15 length) ⌝ }
+{
+    CountAnswer::Refused(Refusal {
+        number: refusals::FILE_LENGTH,
+        place: length,
+    })
 }

@@ -1,12 +1,15 @@
 // What the programs report and night ask of the operating system.
 //
-// Bytes are read until they end, a name is looked at before it is opened, and what could not be done is said on standard error.
+// Bytes are read until they end, or where there are too many, told by their number; a name is looked at before it is opened; and what
+// could not be done is said on standard error.
 // No public function has a `requires`. No contract can say what a read or a look gives: the contracts say where the bytes lie and what
 // is not touched. What is assumed is what the C library promises of its functions, as the kit's libc and os state it.
 use libc::EINTR;
 use libc::PATH_MAX;
 use libc::S_IFMT;
 use libc::S_IFREG;
+use libc::SEEK_CUR;
+use libc::SEEK_END;
 use libc::STDERR_FILENO;
 use libc::STDOUT_FILENO;
 use libc::types::stat;
@@ -14,19 +17,19 @@ use libc::types::timespec;
 use limits::LONGEST_FILE;
 ghost use mathlib.Core.Path.{_≡_};
 ghost use mathlib.Core.Bool.{true};
-ghost use Prim.Native.Nat.{_+_, _<_};
+ghost use Prim.Native.Nat.{_+_, _-_, _^_, _<_};
 ghost use lib.ListN.{length};
 ghost use Rattle.io.specs.Counts.{Counts};
 ghost use Rattle.libc.specs.Io.{Ended};
 ghost use Rattle.limits.specs.Limits.{longestFile};
-ghost use Rattle.system.specs.Reads.{ReadsOn};
+ghost use Rattle.system.specs.Reads.{ReadsOn, Kept};
 ghost use Rattle.system.specs.Paths.{noZero, isPath};
-ghost use Rattle.system.specs.Private.{pathOf};
+ghost use Rattle.system.specs.Private.{placeOf, pathOf};
 
 // A proved loop has to end, so reads are counted: far more than any input needs, however often signals interrupt them.
 pub const MOST_READS: u32 = 4000000000;
 
-// One byte more than the longest file has: a file that fills it is refused as one that is too long, however long it is.
+// One byte more than the longest file has, so that a file which fills it is too long.
 pub const FILE_ROOM: usize = LONGEST_FILE + 1;
 
 // What reading has come to: so many bytes, whether it is over, and the number of the error that ended it, 0 where none did.
@@ -45,23 +48,40 @@ pub fn file_room() -> [u8; FILE_ROOM]
     [0; FILE_ROOM]
 }
 
+// Reading that goes on, with so many bytes so far.
+fn going_on(bytes: usize) -> Input
+    ensures { λ r. ⌜ r .bytes ≡ bytes ⌝ }
+{
+    Input {
+        bytes,
+        is_over: false,
+        error: 0,
+    }
+}
+
+// Reading that is over, with so many bytes.
+fn over(bytes: usize, error: i32) -> Input
+    ensures { λ r. ⌜ r .bytes ≡ bytes ⌝ }
+{
+    Input {
+        bytes,
+        is_over: true,
+        error,
+    }
+}
+
 // What a read that gave no byte means: the input's end, a signal that came between, or a failure.
 fn judge(bytes: usize, got: isize) -> Input
     ensures { λ r. ⌜ r .bytes ≡ bytes ⌝ }
 {
     if got == 0 {
-        return Input {
-            bytes,
-            is_over: true,
-            error: 0,
-        };
+        return over(bytes, 0);
     }
     let error = os::errno();
-    Input {
-        bytes,
-        is_over: error != EINTR,
-        error,
+    if error == EINTR {
+        return going_on(bytes);
     }
+    over(bytes, error)
 }
 
 // Reads once more, behind the bytes that there are. Where the slice has not as many, it is full.
@@ -77,35 +97,97 @@ pub fn read_more(fd: i32, bytes: usize, input: &mut [u8]) -> Input
         return judge(bytes, got);
     }
     let more = io::count(got, &input[bytes..]);
-    Input {
-        bytes: bytes + more,
-        is_over: false,
-        error: 0,
-    }
+    going_on(bytes + more)
 }
 
 // Reads until the input ends, the slice is full or a read fails. One that a signal interrupts is taken up again.
-pub fn read_all(fd: i32, input: &mut [u8]) -> Input
+fn read_all(fd: i32, input: &mut [u8]) -> Input
     ensures { λ r. ⌜ Counts (r .bytes) (now (input .exit)) ⌝ }
 {
-    let mut read = Input {
-        bytes: 0,
-        is_over: false,
-        error: 0,
-    };
+    let mut read = going_on(0);
     let mut left = MOST_READS;
     while !read.is_over {
         if left == 0 {
-            return Input {
-                bytes: read.bytes,
-                is_over: true,
-                error: EINTR,
-            };
+            return over(read.bytes, EINTR);
         }
         left -= 1;
         read = read_more(fd, read.bytes, input);
     }
     read
+}
+
+// ---- the length of an input that is too long
+
+// A place in a file as the system tells it; 0 for an answer that is none.
+fn place(told: i64) -> usize
+    ensures { λ r. ⌜ (r ≡ placeOf told) × (r < 2 ^ 63) ⌝ }
+{
+    if 0 < told { told as usize } else { 0 }
+}
+
+// How long a file is of which a room full was read, up to one place, and which ends at another. One that was cut meanwhile is what
+// was read of it.
+fn length_by_places(here: usize, end: usize) -> usize
+    requires { ⌜ end < 2 ^ 63 ⌝ }
+    ensures { λ r. ⌜ r ≡ longestFile + 1 + (end - here) ⌝ }
+{
+    if end < here {
+        return FILE_ROOM;
+    }
+    FILE_ROOM + (end - here)
+}
+
+// Reads on from a room full of bytes to the input's end. What is read is counted and not kept.
+fn count_on(fd: i32) -> Input
+    ensures { λ r. ⌜ longestFile < r .bytes ⌝ }
+{
+    let mut room = io::large_buffer();
+    let mut read = going_on(FILE_ROOM);
+    let mut left = MOST_READS;
+    while !read.is_over {
+        if left == 0 {
+            return over(read.bytes, EINTR);
+        }
+        left -= 1;
+        let more = read_more(fd, 0, &mut room);
+        read = Input {
+            bytes: read.bytes + more.bytes,
+            is_over: more.is_over,
+            error: more.error,
+        };
+    }
+    read
+}
+
+// How long an input is whose first bytes have filled the room. Where the system keeps a place in it, as in a file, it is asked for the
+// end, so a long file costs no more than a short one. Where it keeps none, as in a pipe, the input is read on.
+fn whole_length(fd: i32) -> Input
+    ensures { λ r. ⌜ longestFile < r .bytes ⌝ }
+{
+    let here = place(libc::lseek(fd, 0, SEEK_CUR));
+    // A device may tell a place that no read has moved.
+    if here < FILE_ROOM {
+        return count_on(fd);
+    }
+    let end = libc::lseek(fd, 0, SEEK_END);
+    // A file of the system's own may have places, but no end that it tells.
+    if end < 0 {
+        return count_on(fd);
+    }
+    over(length_by_places(here, place(end)), 0)
+}
+
+// Reads a file. The bytes are as many as it has, whatever its length; all of them lie in the room where it is not too long. The second
+// `ensures` gives only the length, which lending the array as a slice needs.
+pub fn read_file(fd: i32, room: &mut [u8; FILE_ROOM]) -> Input
+    ensures { λ r. ⌜ Kept (r .bytes) (now (room .exit)) ⌝ }
+    ensures { λ r. ⌜ longestFile + 1 ≡ length (now (room .exit)) ⌝ }
+{
+    let read = read_all(fd, room);
+    if (read.error != 0) | (read.bytes < FILE_ROOM) {
+        return read;
+    }
+    whole_length(fd)
 }
 
 // ---- looking at a name

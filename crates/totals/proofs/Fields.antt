@@ -1,4 +1,4 @@
--- The eleven fields of the totals, so that a law is proved once for all of them.
+-- The fields of the totals, so that a law is proved once for all of them.
 -- Assumes nothing.
 use mathlib.Core.Path.{_≡_, refl}
 use Prim.Native.Nat.{ℕ}
@@ -11,7 +11,10 @@ pub data Field : Type 0 where
   seven : Field
   eight : Field
   nine : Field
-  eleven : Field
+  fifteen : Field
+  sixteen : Field
+  seventeen : Field
+  eighteen : Field
   samples : Field
   changed : Field
   spikes : Field
@@ -25,7 +28,10 @@ at unopened t = t .unopened
 at seven t = t .seven
 at eight t = t .eight
 at nine t = t .nine
-at eleven t = t .eleven
+at fifteen t = t .fifteen
+at sixteen t = t .sixteen
+at seventeen t = t .seventeen
+at eighteen t = t .eighteen
 at samples t = t .samples
 at changed t = t .changed
 at spikes t = t .spikes
@@ -40,7 +46,10 @@ at-each rule unopened = refl
 at-each rule seven = refl
 at-each rule eight = refl
 at-each rule nine = refl
-at-each rule eleven = refl
+at-each rule fifteen = refl
+at-each rule sixteen = refl
+at-each rule seventeen = refl
+at-each rule eighteen = refl
 at-each rule samples = refl
 at-each rule changed = refl
 at-each rule spikes = refl
@@ -55,7 +64,10 @@ same-fields e = λ i. record {
   seven = e seven i;
   eight = e eight i;
   nine = e nine i;
-  eleven = e eleven i;
+  fifteen = e fifteen i;
+  sixteen = e sixteen i;
+  seventeen = e seventeen i;
+  eighteen = e eighteen i;
   samples = e samples i;
   changed = e changed i;
   spikes = e spikes i;

@@ -21,7 +21,7 @@ total-most m number [] h = zero-le
 total-most m number (o ∷ outcomes) h =
     omega (arith, h o (List·Memᴰ·head refl), total-most m number outcomes (λ p l. h p (List·Memᴰ·tail l)), mul-suc m (length outcomes))
 
--- Every file is counted in exactly one of the six numbers of files: they add up to the number of outcomes.
+-- Every file is counted in exactly one of the nine numbers of files: they add up to the number of outcomes.
 pub every-file-counted : (outcomes : List Outcome) → OfFiles outcomes → filesIn (totalsOf outcomes) ≡ length outcomes
 unfolding filesIn totalsOf eachField total
 every-file-counted [] h = refl

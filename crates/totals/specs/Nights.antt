@@ -22,6 +22,7 @@ OfFiles outcomes = (o : Outcome) → List·Memᴰ o outcomes → OfFile o
 unfoldable pub running : List Outcome → Totals
 running outcomes = foldl added nothing outcomes
 
--- how many files the totals count: cleaned, not opened, refused under 7, 8, 9 and 11
+-- how many files the totals count: cleaned, not opened, refused under 7, 8, 9, 15, 16, 17 and 18
 unfoldable pub filesIn : Totals → ℕ
-filesIn t = t .cleaned + t .unopened + t .seven + t .eight + t .nine + t .eleven
+filesIn t =
+    t .cleaned + t .unopened + t .seven + t .eight + t .nine + t .fifteen + t .sixteen + t .seventeen + t .eighteen

@@ -1,5 +1,5 @@
 -- The night sheet's totals: "files cleaned, files not opened, files refused under 7, 8, 9 and 11 (a count each), samples, changed
--- samples, spikes and both residue totals".
+-- samples, spikes and both residue totals". Those are request 1's words; request 3 puts 15, 16, 17 and 18 in the place of 11.
 use Prim.Native.Nat.{ℕ, _+_, _%_, _^_}
 use mathlib.Core.List.{List, [], _∷_}
 use lib.Dec.{eqb}
@@ -35,7 +35,10 @@ adds o = record {
   seven = ofRefused 7 o;
   eight = ofRefused 8 o;
   nine = ofRefused 9 o;
-  eleven = ofRefused 11 o;
+  fifteen = ofRefused 15 o;
+  sixteen = ofRefused 16 o;
+  seventeen = ofRefused 17 o;
+  eighteen = ofRefused 18 o;
   samples = ofCleaned (λ c. c .samples) o;
   changed = ofCleaned (λ c. c .changed) o;
   spikes = ofCleaned (λ c. c .spikes) o;
@@ -51,7 +54,10 @@ eachField rule = record {
   seven = rule (λ t. t .seven);
   eight = rule (λ t. t .eight);
   nine = rule (λ t. t .nine);
-  eleven = rule (λ t. t .eleven);
+  fifteen = rule (λ t. t .fifteen);
+  sixteen = rule (λ t. t .sixteen);
+  seventeen = rule (λ t. t .seventeen);
+  eighteen = rule (λ t. t .eighteen);
   samples = rule (λ t. t .samples);
   changed = rule (λ t. t .changed);
   spikes = rule (λ t. t .spikes);

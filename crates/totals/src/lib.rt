@@ -27,11 +27,14 @@ pub struct Totals {
     pub cleaned: u64,
     // How many files were not opened.
     pub unopened: u64,
-    // How many files were refused under 7, 8, 9 and 11.
+    // How many files were refused under 7, 8, 9, 15, 16, 17 and 18.
     pub seven: u64,
     pub eight: u64,
     pub nine: u64,
-    pub eleven: u64,
+    pub fifteen: u64,
+    pub sixteen: u64,
+    pub seventeen: u64,
+    pub eighteen: u64,
     // The sums of what was counted of the cleaned files.
     pub samples: u64,
     pub changed: u64,
@@ -50,7 +53,10 @@ pub fn start() -> Totals
         seven: 0,
         eight: 0,
         nine: 0,
-        eleven: 0,
+        fifteen: 0,
+        sixteen: 0,
+        seventeen: 0,
+        eighteen: 0,
         samples: 0,
         changed: 0,
         spikes: 0,
@@ -83,7 +89,10 @@ fn of_refusal(refusal: Refusal) -> Totals
     adds.seven = under(refusals::BAD_TERM, refusal);
     adds.eight = under(refusals::TERM_COUNT, refusal);
     adds.nine = under(refusals::SCAN_LENGTH, refusal);
-    adds.eleven = under(refusals::LAYOUT, refusal);
+    adds.fifteen = under(refusals::FILE_LENGTH, refusal);
+    adds.sixteen = under(refusals::MARK, refusal);
+    adds.seventeen = under(refusals::TERM_DISTANCE, refusal);
+    adds.eighteen = under(refusals::SAMPLE_DISTANCE, refusal);
     adds
 }
 
@@ -132,7 +141,10 @@ pub fn add(totals: Totals, outcome: Outcome) -> Totals
         seven: wrapping_add_u64(totals.seven, adds.seven),
         eight: wrapping_add_u64(totals.eight, adds.eight),
         nine: wrapping_add_u64(totals.nine, adds.nine),
-        eleven: wrapping_add_u64(totals.eleven, adds.eleven),
+        fifteen: wrapping_add_u64(totals.fifteen, adds.fifteen),
+        sixteen: wrapping_add_u64(totals.sixteen, adds.sixteen),
+        seventeen: wrapping_add_u64(totals.seventeen, adds.seventeen),
+        eighteen: wrapping_add_u64(totals.eighteen, adds.eighteen),
         samples: wrapping_add_u64(totals.samples, adds.samples),
         changed: wrapping_add_u64(totals.changed, adds.changed),
         spikes: wrapping_add_u64(totals.spikes, adds.spikes),

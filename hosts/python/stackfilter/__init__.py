@@ -18,7 +18,7 @@ in a call without one the only argument, was a NumPy array; and a list where not
 `night` opens files by their names, and gives one sheet for all of them: a line each, and the totals.
 
     >>> night(["none.scan"])
-    'unopened\\n0 1 0 0 0 0 0 0 0 0 0\\n'
+    'unopened\\n0 1 0 0 0 0 0 0 0 0 0 0 0 0\\n'
 
 Every error is a StackfilterError: an ArgumentError where the call cannot take what it was given, a Refusal where the
 library says no, a LibraryError where the shared object is not there.

@@ -149,7 +149,7 @@ def preset(number: SupportsIndex) -> List[int]:
 def read(file: Row) -> ScanFile:
     """The samples and the terms that a scan file holds.
 
-    Refuses 11, 7, 8, 9.
+    Refuses 15, 16, 17, 18, 7, 8, 9.
     """
     given, terms, terms_read = give(FILE, file), lend("H", MOST_TERMS), ctypes.c_size_t()
     samples = lend("H", min(given.length // WORD_BYTES, MOST_SAMPLES))
@@ -170,7 +170,7 @@ def write(terms: Row, scan: Row) -> bytes:
 def count(file: Row) -> Counts:
     """Filters the scan that a scan file holds by the form beside it and counts what that changes.
 
-    Refuses 11, 7, 8, 9.
+    Refuses 15, 16, 17, 18, 7, 8, 9.
     """
     counts = (ctypes.c_uint64 * len(Counts._fields))()
     _call("sf_count", give(FILE, file), counts)

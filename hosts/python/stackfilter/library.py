@@ -15,7 +15,7 @@ from typing import Any, List
 from .errors import LibraryError
 from .version import CHECKOUT, PACKAGE, __version__
 
-NAME = f"libstackfilter.so.{__version__.split('.')[0]}"
+NAME = f"libstackfilter.so.{__version__.rpartition('.')[0]}"
 VARIABLE = "STACKFILTER_LIB"
 ADVICE = f"run hosts/build in the checkout, which makes it, or set {VARIABLE} to its path"
 

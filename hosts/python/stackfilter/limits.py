@@ -41,5 +41,5 @@ LONGEST_NAME = 255
 LONGEST_LIST = MOST_NAMES * (LONGEST_NAME + 1)
 
 # The night sheet's last line has so many totals, in at most TOTALS_BYTES.
-TOTALS = 11
+TOTALS = 14
 TOTALS_BYTES = 512

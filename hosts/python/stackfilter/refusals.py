@@ -18,14 +18,17 @@ BAD_TERM = 7
 TERM_COUNT = 8
 SCAN_LENGTH = 9
 OUTPUT_LENGTH = 10
-LAYOUT = 11
 NOT_POSITIVE = 12
 TABLE_LENGTH = 13
 PRESET_NUMBER = 14
+FILE_LENGTH = 15
+MARK = 16
+TERM_DISTANCE = 17
+SAMPLE_DISTANCE = 18
 BAD_NAME = 19
 NAME_COUNT = 20
 
-# The place stands where the braces are; where there are none, it is always the same.
+# The place stands where the braces are; where there are none, it is always the same. A file's first byte is byte 0.
 SENTENCES = {
     RECIPE_LENGTH: f"a recipe has {limits.STEP_BYTES} to {limits.LONGEST_RECIPE} bytes, a multiple of"
                    f" {limits.STEP_BYTES}, and this has {{}}",
@@ -38,10 +41,15 @@ SENTENCES = {
     TERM_COUNT: f"a form has at most {limits.MOST_TERMS} terms, and this has {{}}",
     SCAN_LENGTH: f"a scan has 1 to {limits.MOST_SAMPLES:,} samples, and this has {{}}",
     OUTPUT_LENGTH: "the output has the wrong length, and {} is needed",
-    LAYOUT: "the scan file is badly laid out",
     NOT_POSITIVE: "the truth table is 1 on pattern {} and 0 with one offset more, so it is not positive",
     TABLE_LENGTH: f"a truth table has {limits.TABLE_BYTES} bytes, and this slice has {{}}",
     PRESET_NUMBER: f"presets have the numbers 0 to {limits.PRESETS - 1}, and {{}} was asked for",
+    FILE_LENGTH: f"a scan file has {limits.TRAILER_BYTES} to {limits.LONGEST_FILE:,} bytes, and this has {{}}",
+    MARK: "the mark 53 46 hex, which ends a scan file, does not stand at byte {}",
+    TERM_DISTANCE: f"the scan file's term distance, at byte {{}}, is not {limits.TRAILER_BYTES} + {limits.WORD_BYTES} x the"
+                   " number of terms",
+    SAMPLE_DISTANCE: "the scan file's sample distance, at byte {}, is not the file's length, is below the term distance, or"
+                     " differs from it by an odd number",
     BAD_NAME: f"a name has 1 to {limits.LONGEST_NAME} bytes, and line {{}} of the list is empty or longer",
     NAME_COUNT: f"a list of names has at most {limits.MOST_NAMES} lines, and this has more",
 }

@@ -18,7 +18,7 @@ SEEDS = 3
 
 sys.path.insert(0, str(FOLDER))
 import stackfilter
-from stackfilter import LONGEST_NAME, MOST_NAMES, MOST_SAMPLES, TOP
+from stackfilter import LONGEST_FILE, LONGEST_NAME, MOST_NAMES, MOST_SAMPLES, TOP
 
 
 def make_files(rng):
@@ -29,7 +29,10 @@ def make_files(rng):
     contents = {
         b"7": bytes.fromhex("0100 1800 1000 12000000 10000000 0200 5346"),
         b"9": bytes.fromhex("1000 0E000000 0E000000 0100 5346"),
-        b"11": b"",
+        b"15": b"",
+        b"16": file[:-1],
+        b"17": file[:24] + b"\4" + file[25:],
+        b"18": file[1:],
         b"longest": longest,
         b"longer": longest + b"\0",
         b"n" * LONGEST_NAME: file,
@@ -44,14 +47,15 @@ def make_files(rng):
     for name, content in contents.items():
         with open(name, "wb") as opened:
             opened.write(content)
-    with open("huge", "wb") as opened:
-        opened.truncate(1 << 33)
+    for length in (LONGEST_FILE + 1, 5_000_000_000, 10_000_000_000):
+        with open(f"of {length} bytes", "wb") as opened:
+            opened.truncate(length)
     os.mkdir("folder")
     os.mkfifo("pipe")
     for target in ("7", "folder", "pipe", "none"):
         os.symlink(target, f"to {target}")
     others = (b"none", b"sound 0\r", b"./sound 0", b"sound 0/", b"folder/", b"nul\0", b"/dev/null", b"/dev/zero",
-              b"/proc/self/mem", b" ")
+              b"/proc/self/mem", b"/proc/kallsyms", b" ")
     return [*sorted(os.listdir(b".")), *others]
 
 
@@ -78,7 +82,7 @@ def printed(names):
 
 
 def main():
-    met = {"cleaned": 0, "unopened": 0, "refused": 0}
+    met = dict.fromkeys(["cleaned", "unopened", *(f"refused {number}" for number in (7, 9, 15, 16, 17, 18))], 0)
     compared = 0
     for seed in range(SEEDS):
         rng = random.Random(seed)
@@ -90,7 +94,7 @@ def main():
                     sys.exit(f"seed {seed}, {names!r}:\nnight gives {ours!r}\nthe program {theirs!r}")
                 compared += 1
                 for line in ours.splitlines()[:-1]:
-                    met[line.split()[0] if line[0] in "ur" else "cleaned"] += 1
+                    met["cleaned" if line[0].isdigit() else " ".join(line.split()[:2])] += 1
             os.chdir("/")
     if 0 in met.values():
         sys.exit(f"a sort of line was never met: {met}")

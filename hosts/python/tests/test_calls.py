@@ -1,5 +1,6 @@
 """The calls: document 01's cases, what each takes and gives, and its refusals."""
 
+import itertools
 import tracemalloc
 import unittest
 
@@ -63,7 +64,8 @@ class Answers(unittest.TestCase):
 
     def test_a_file_has_a_line_whatever_it_holds(self):
         self.assertEqual(stackfilter.line(FILE), "5 1 1 80 0\n")
-        self.assertEqual(stackfilter.line(b""), "refused 11 0\n")
+        self.assertEqual(stackfilter.line(b""), "refused 15 0\n")
+        self.assertEqual(stackfilter.line(FILE[1:]), "refused 18 15\n")
         self.assertEqual(stackfilter.line(FILE[10:16] + bytes.fromhex("12000000 12000000 0300 5346")), "refused 9 0\n")
 
     def test_the_longest_scan(self):
@@ -106,17 +108,74 @@ class Refusals(unittest.TestCase):
         self.refused(7, 0, stackfilter.form_to_table, [512])
         self.refused(7, 1, stackfilter.check, [24, 16])
 
-    def test_tables_presets_and_files(self):
+    def test_tables_and_presets(self):
         self.refused(13, TABLE_BYTES - 1, stackfilter.table_to_form, bytes(TABLE_BYTES - 1))
         self.refused(12, 0, stackfilter.table_to_form, b"\x01" + bytes(TABLE_BYTES - 1))
         self.refused(14, 2 ** 32, stackfilter.preset, 2 ** 32)
-        self.refused(11, 0, stackfilter.read, b"")
-        self.refused(11, 0, stackfilter.count, FILE[1:])
 
     def test_a_form_is_judged_before_a_scan_that_is_too_long(self):
         for call in (stackfilter.clean, stackfilter.residue, stackfilter.root, stackfilter.write):
             self.refused(7, 1, call, [24, 16], [7] * (MOST_SAMPLES + 1))
         self.refused(4, 2, stackfilter.run_recipe, recipe("signal", "signal"), [7] * (MOST_SAMPLES + 1))
+
+
+class Layouts(unittest.TestCase):
+    """What is wrong with a scan file: the causes apart, together and in their order, each at its byte."""
+
+    # A byte of FILE that may be spoilt, with the refusal that follows, in the order tested: in the mark, the term distance, the
+    # number of terms, the sample distance, the first term.
+    FAULTS = ((27, 16, 26), (20, 17, 20), (24, 17, 20), (16, 18, 16), (11, 7, 0))
+
+    def refused(self, number, place, file):
+        for call in (stackfilter.read, stackfilter.count):
+            with self.assertRaises(Refusal) as caught:
+                call(file)
+            self.assertEqual((caught.exception.number, caught.exception.place), (number, place))
+        self.assertEqual(stackfilter.line(file), f"refused {number} {place}\n")
+
+    def test_the_first_fault_counts(self):
+        for count in range(1, len(self.FAULTS) + 1):
+            for faults in itertools.combinations(self.FAULTS, count):
+                file = bytearray(FILE)
+                for byte, _, _ in faults:
+                    file[byte] ^= 2
+                self.refused(*faults[0][1:], bytes(file))
+
+    def test_the_length_comes_first(self):
+        for length in range(12):
+            self.refused(15, length, FILE[len(FILE) - length:])
+            self.refused(15, length, bytes(length))
+        self.refused(16, 10, bytes(12))
+        self.refused(16, LONGEST_FILE - 2, bytes(LONGEST_FILE))
+        self.refused(15, LONGEST_FILE + 1, bytes(LONGEST_FILE + 1))
+        self.refused(15, LONGEST_FILE + 1, bytes(LONGEST_FILE + 1 - len(FILE)) + FILE)
+        self.refused(15, 1_000_000, bytes(1_000_000))
+
+    def test_a_file_that_is_cut(self):
+        self.refused(18, 15, FILE[1:])
+        self.refused(18, 14, FILE[2:])
+        self.refused(16, 25, FILE[:-1])
+        self.refused(16, 26, FILE[:-2] + b"FS")
+
+    def test_every_byte_of_the_trailer(self):
+        for byte in range(16, 28):
+            for bit in range(8):
+                file = bytearray(FILE)
+                file[byte] ^= 1 << bit
+                self.refused(*((18, 16) if byte < 20 else (17, 20) if byte < 26 else (16, 26)), bytes(file))
+
+    def test_the_causes_of_a_sample_distance(self):
+        other_length = bytes.fromhex("0A00 1E000000 0C000000 0000 5346")
+        below_the_terms = bytes.fromhex("0C000000 0E000000 0100 5346")
+        half_a_sample = bytes.fromhex("0A 0D000000 0C000000 0000 5346")
+        for file, place in ((other_length, 2), (below_the_terms, 0), (half_a_sample, 1)):
+            self.refused(18, place, file)
+
+    def test_a_layout_comes_before_a_scan_without_samples(self):
+        no_samples = FILE[10:16] + bytes.fromhex("12000000 12000000 0300 5346")
+        self.refused(9, 0, no_samples)
+        self.refused(18, 6, no_samples.replace(b"\x12", b"\x14", 1))
+        self.refused(17, 10, FILE[10:16] + bytes.fromhex("12000000 12000000 0200 5346"))
 
 
 class LongInputs(unittest.TestCase):
@@ -151,5 +210,5 @@ class LongInputs(unittest.TestCase):
     def test_a_file_of_ten_million_bytes(self):
         file = bytes(10_000_000)
         refusal, memory = self.most_memory(stackfilter.read, file)
-        self.assertEqual((refusal.number, refusal.place), (11, 0))
+        self.assertEqual((refusal.number, refusal.place), (15, len(file)))
         self.assertLess(memory, 1.5 * len(file))

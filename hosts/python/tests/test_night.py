@@ -1,5 +1,6 @@
 """The night sheet: which names it takes, what it says of each file, and its totals."""
 
+import collections
 import contextlib
 import io
 import itertools
@@ -10,6 +11,7 @@ import resource
 import signal
 import socket
 import tempfile
+import threading
 import unittest
 from unittest import mock
 
@@ -26,7 +28,9 @@ MEDIAN = [24, 40, 48]
 FILE = bytes.fromhex("0A000A005A000A000A00 180028003000 1C000000 12000000 0300 5346")
 UNSORTED = bytes.fromhex("0100 1800 1000 12000000 10000000 0200 5346")
 NO_SAMPLES = bytes.fromhex("180028003000 12000000 12000000 0300 5346")
-NOTHING = "0 0 0 0 0 0 0 0 0 0 0\n"
+NOTHING = "0 0 0 0 0 0 0 0 0 0 0 0 0 0\n"
+# One file to each refusal of a layout: no bytes, the last byte cut off, one term too many, the first byte cut off.
+DAMAGED = {"15": (b"", 0), "16": (FILE[:-1], 25), "17": (FILE[:24] + b"\4" + FILE[25:], 20), "18": (FILE[1:], 15)}
 NOBODY = 65534
 
 # So long a night may take before a test gives it up.
@@ -60,7 +64,7 @@ class NightTest(unittest.TestCase):
 
     def refused(self, number, place, names):
         """The list must be refused, and no file opened."""
-        with mock.patch.object(sheets, "_content", side_effect=AssertionError("a file is opened")):
+        with mock.patch.object(sheets, "_open", side_effect=AssertionError("a file is opened")):
             self.assertEqual(stackfilter.night(names), f"refused {number} {place}\n")
 
 
@@ -69,7 +73,7 @@ class Lines(NightTest):
         self.file("day.scan")
         self.file("damaged.scan", FILE[1:])
         self.sheet(["day.scan", "day.scan", "missing.scan", "damaged.scan"],
-                   "5 1 1 80 0", "5 1 1 80 0", "unopened", "refused 11 0", "2 1 0 0 0 1 10 2 2 160 0")
+                   "5 1 1 80 0", "5 1 1 80 0", "unopened", "refused 18 15", "2 1 0 0 0 0 0 0 1 10 2 2 160 0")
 
     def test_an_empty_list(self):
         for names in ([], (), iter(()), range(0)):
@@ -78,25 +82,28 @@ class Lines(NightTest):
     def test_every_refusal_that_a_file_can_have(self):
         self.file("7", UNSORTED)
         self.file("9", NO_SAMPLES)
-        self.file("11", b"")
-        self.sheet(["9", "7", "11", "7"], "refused 9 0", "refused 7 1", "refused 11 0", "refused 7 1",
-                   "0 0 2 0 1 1 0 0 0 0 0")
+        for number, (content, _) in DAMAGED.items():
+            self.file(number, content)
+        names = ["9", "18", "7", "17", "16", "18", "16", "15", "16", "7", "17", "18", "18"]
+        places = {"9": 0, "7": 1, **{number: place for number, (_, place) in DAMAGED.items()}}
+        self.sheet(names, *(f"refused {number} {places[number]}" for number in names), "0 0 2 0 1 1 3 2 4 0 0 0 0 0")
 
     def test_residues_of_both_signs(self):
         self.file("up", stackfilter.write([], [3, 0, 9]))
         self.file("down", stackfilter.write([0], [TOP, 0, TOP - 5]))
         self.file("both", stackfilter.write(MEDIAN, [10, 10, 90, 0, 10, 10]))
         self.sheet(["up", "down", "both"], "3 2 2 12 0", f"3 2 1 0 {TOP + 5}", "6 2 2 80 10",
-                   f"3 0 0 0 0 0 12 6 5 92 {TOP + 15}")
+                   f"3 0 0 0 0 0 0 0 0 12 6 5 92 {TOP + 15}")
 
     def test_the_largest_totals(self):
         self.file("all", stackfilter.write([], [TOP] * MOST_SAMPLES))
         line = f"{MOST_SAMPLES} {MOST_SAMPLES} 1 {MOST_SAMPLES * TOP} 0"
         self.sheet(["all"] * MOST_NAMES, *[line] * MOST_NAMES,
-                   "250 0 0 0 0 0 4096000 4096000 250 268431360000 0")
+                   "250 0 0 0 0 0 0 0 0 4096000 4096000 250 268431360000 0")
 
     def test_each_line_is_the_report_of_its_file(self):
-        contents = [FILE, FILE[1:], UNSORTED, NO_SAMPLES, b"", stackfilter.write(MEDIAN, range(0, TOP, 999))]
+        contents = [FILE, UNSORTED, NO_SAMPLES, stackfilter.write(MEDIAN, range(0, TOP, 999)),
+                    *(content for content, _ in DAMAGED.values())]
         names = [self.file(str(index), content) for index, content in enumerate(contents)]
         given = random.Random(7).choices(names, k=100)
         lines = stackfilter.night(given).splitlines(keepends=True)
@@ -118,12 +125,16 @@ class Lines(NightTest):
             self.file(f"damaged{index}", content[rng.randrange(len(content)):])
         self.file("7", UNSORTED)
         self.file("9", NO_SAMPLES)
-        sorts = [*(f"sound{index}" for index in range(6)), *(f"damaged{index}" for index in range(6)), "7", "9", "none", "."]
+        for number, (content, _) in DAMAGED.items():
+            self.file(number, content)
+        os.truncate(self.file("long"), 1 << 33)
+        sorts = [*(f"sound{index}" for index in range(6)), *(f"damaged{index}" for index in range(6)), "7", "9", *DAMAGED,
+                 "long", "none", "."]
         return rng.choices(sorts, k=rng.randrange(MOST_NAMES + 1))
 
     def totals_of(self, lines):
         counted = [[int(number) for number in line.split()] for line in lines if line[0].isdigit()]
-        under = [sum(line.split()[:2] == ["refused", number] for line in lines) for number in ("7", "8", "9", "11")]
+        under = [sum(line.split()[:2] == ["refused", number] for line in lines) for number in ("7", "8", "9", *DAMAGED)]
         sums = [sum(column) for column in zip(*counted)] if counted else [0] * 5
         return [len(counted), lines.count("unopened"), *under, *sums]
 
@@ -131,7 +142,7 @@ class Lines(NightTest):
 class RefusedLists(NightTest):
     def test_250_names_are_taken_and_251_are_not(self):
         self.file("a")
-        self.sheet(["a"] * MOST_NAMES, *["5 1 1 80 0"] * MOST_NAMES, "250 0 0 0 0 0 1250 250 250 20000 0")
+        self.sheet(["a"] * MOST_NAMES, *["5 1 1 80 0"] * MOST_NAMES, "250 0 0 0 0 0 0 0 0 1250 250 250 20000 0")
         for names in (MOST_NAMES + 1, 1000):
             self.refused(20, MOST_NAMES, ["a"] * names)
 
@@ -147,7 +158,7 @@ class RefusedLists(NightTest):
         self.refused(19, MOST_NAMES, ["a"] * (MOST_NAMES - 1) + [""])
 
     def test_too_long_names(self):
-        self.sheet([self.file("n" * LONGEST_NAME)], "5 1 1 80 0", "1 0 0 0 0 0 5 1 1 80 0")
+        self.sheet([self.file("n" * LONGEST_NAME)], "5 1 1 80 0", "1 0 0 0 0 0 0 0 0 5 1 1 80 0")
         self.refused(19, 1, ["n" * (LONGEST_NAME + 1)])
         self.refused(19, 2, ["a", "n" * (LONGEST_NAME + 1), ""])
         # 253 characters, three of which have two bytes.
@@ -161,18 +172,18 @@ class RefusedLists(NightTest):
     def test_the_longest_list(self):
         names = ["n" * LONGEST_NAME] * MOST_NAMES
         self.assertEqual(sum(len(name) + 1 for name in names), LONGEST_LIST)
-        self.sheet(names, *["unopened"] * MOST_NAMES, "0 250 0 0 0 0 0 0 0 0 0")
+        self.sheet(names, *["unopened"] * MOST_NAMES, "0 250 0 0 0 0 0 0 0 0 0 0 0 0")
 
     def test_a_zero_byte_does_not_shorten_a_name(self):
         self.refused(19, 1, ["\0" * (LONGEST_NAME + 1)])
 
 
 class Names(NightTest):
-    CLEANED = ("5 1 1 80 0", "1 0 0 0 0 0 5 1 1 80 0")
-    UNOPENED = ("unopened", "0 1 0 0 0 0 0 0 0 0 0")
+    CLEANED = ("5 1 1 80 0", "1 0 0 0 0 0 0 0 0 5 1 1 80 0")
+    UNOPENED = ("unopened", "0 1 0 0 0 0 0 0 0 0 0 0 0 0")
 
     def bad(self, index, sentence, names):
-        with mock.patch.object(sheets, "_content", side_effect=AssertionError("a file is opened")):
+        with mock.patch.object(sheets, "_open", side_effect=AssertionError("a file is opened")):
             with self.assertRaises(ArgumentError) as caught:
                 stackfilter.night(names)
         error = caught.exception
@@ -271,7 +282,7 @@ class Files(NightTest):
     def unopened(self, name):
         """The night must go on, and the next file be cleaned."""
         self.file("next")
-        self.sheet([name, "next"], "unopened", "5 1 1 80 0", "1 1 0 0 0 0 5 1 1 80 0")
+        self.sheet([name, "next"], "unopened", "5 1 1 80 0", "1 1 0 0 0 0 0 0 0 5 1 1 80 0")
 
     def test_a_missing_file(self):
         self.unopened("none")
@@ -319,7 +330,7 @@ class Files(NightTest):
         os.chmod("a", 0)
         os.chmod(".", 0o755)
         with self.not_root():
-            self.sheet(["a", "next"], "unopened", "5 1 1 80 0", "1 1 0 0 0 0 5 1 1 80 0")
+            self.sheet(["a", "next"], "unopened", "5 1 1 80 0", "1 1 0 0 0 0 0 0 0 5 1 1 80 0")
 
     @contextlib.contextmanager
     def not_root(self):
@@ -351,7 +362,7 @@ class Files(NightTest):
                 return piece
 
         with mock.patch.object(sheets, "open", lambda *_, **__: Half(), create=True):
-            self.sheet(["a", "next"], "unopened", "5 1 1 80 0", "1 1 0 0 0 0 5 1 1 80 0")
+            self.sheet(["a", "next"], "unopened", "5 1 1 80 0", "1 1 0 0 0 0 0 0 0 5 1 1 80 0")
 
     def test_a_file_that_is_removed_meanwhile(self):
         self.file("a")
@@ -373,10 +384,26 @@ class Files(NightTest):
         self.file("longest", longest)
         self.file("longer", longest + b"\0")
         self.file("twice", longest + longest)
-        self.file("huge", FILE)
-        os.truncate("huge", 1 << 33)
-        self.sheet(["longest", "longer", "twice", "huge"], f"{MOST_SAMPLES} 0 0 0 0", *["refused 11 0"] * 3,
-                   f"1 0 0 0 0 3 {MOST_SAMPLES} 0 0 0 0")
+        self.sheet(["longest", "longer", "twice"], f"{MOST_SAMPLES} 0 0 0 0", f"refused 15 {LONGEST_FILE + 1}",
+                   f"refused 15 {2 * LONGEST_FILE}", f"1 0 0 0 0 2 0 0 0 {MOST_SAMPLES} 0 0 0 0")
+
+    def test_a_length_is_never_cut(self):
+        lengths = [(1 << 32) + len(FILE), 5_000_000_000, 1 << 33, 10_000_000_000]
+        for length in lengths:
+            os.truncate(self.file(str(length)), length)
+        self.sheet(map(str, lengths), *(f"refused 15 {length}" for length in lengths), "0 0 0 0 0 4 0 0 0 0 0 0 0 0")
+
+    def test_no_more_is_read_of_a_huge_file(self):
+        os.truncate(self.file("10 GB"), 10_000_000_000)
+        read = []
+
+        def watched(*arguments, **options):
+            read.append(Watched(open(*arguments, **options)))
+            return read[-1]
+
+        with mock.patch.object(sheets, "open", watched, create=True):
+            self.sheet(["10 GB"], "refused 15 10000000000", "0 0 0 0 0 1 0 0 0 0 0 0 0 0")
+        self.assertEqual([file.given for file in read], [LONGEST_FILE + 1])
 
     def test_no_more_is_read_than_tells_that_a_file_is_too_long(self):
         for piece in (1, 1000, LONGEST_FILE, LONGEST_FILE + 1):
@@ -398,7 +425,7 @@ class Files(NightTest):
             return opened[-1]
 
         with mock.patch.object(sheets, "open", watched, create=True):
-            self.sheet(["a"] * 3, *["5 1 1 80 0"] * 3, "3 0 0 0 0 0 15 3 3 240 0")
+            self.sheet(["a"] * 3, *["5 1 1 80 0"] * 3, "3 0 0 0 0 0 0 0 0 15 3 3 240 0")
         self.assertEqual([file.closed for file in opened], [True] * 3)
 
     def test_few_files_may_be_open_at_once(self):
@@ -411,7 +438,98 @@ class Files(NightTest):
             last = stackfilter.night(["a"] * MOST_NAMES).splitlines()[-1]
         finally:
             resource.setrlimit(resource.RLIMIT_NOFILE, before)
-        self.assertEqual(last, "250 0 0 0 0 0 1250 250 250 20000 0")
+        self.assertEqual(last, "250 0 0 0 0 0 0 0 0 1250 250 250 20000 0")
+
+
+class FilesThatChange(NightTest):
+    """A file that is cut or lengthened while the night reads it: it has one length, in its line and in the totals."""
+
+    def after_reading(self, length):
+        """The file is given this length between the reading of what tells that it is too long and the question for its length."""
+        read = sheets._read
+
+        def read_and_change(file):
+            content = read(file)
+            os.truncate("a", length)
+            return content
+
+        return mock.patch.object(sheets, "_read", read_and_change)
+
+    def test_a_long_file_that_is_cut_is_as_long_as_what_was_read(self):
+        for length in (0, len(FILE), LONGEST_FILE, LONGEST_FILE + 1):
+            os.truncate(self.file("a"), 1 << 33)
+            with self.after_reading(length):
+                self.sheet(["a"], f"refused 15 {LONGEST_FILE + 1}", "0 0 0 0 0 1 0 0 0 0 0 0 0 0")
+
+    def test_a_long_file_that_does_not_say_where_it_ends_is_read_to_its_end(self):
+        os.truncate(self.file("a"), 1_000_000)
+        with mock.patch.object(Watched, "seek", side_effect=OSError), \
+                mock.patch.object(sheets, "open", lambda *given, **options: Watched(open(*given, **options)), create=True):
+            self.sheet(["a"], "refused 15 1000000", "0 0 0 0 0 1 0 0 0 0 0 0 0 0")
+
+    def test_a_long_file_that_grows_is_as_long_as_it_is_when_asked(self):
+        os.truncate(self.file("a"), 40_000)
+        with self.after_reading(5_000_000_000):
+            self.sheet(["a"], "refused 15 5000000000", "0 0 0 0 0 1 0 0 0 0 0 0 0 0")
+
+    def test_a_file_that_was_read_to_its_end_is_what_was_read(self):
+        for length in (0, 10, 1 << 33):
+            self.file("a")
+            with self.after_reading(length):
+                self.sheet(["a"], *Names.CLEANED)
+
+    def test_a_file_that_is_cut_and_lengthened_all_the_time(self):
+        long = 5_000_000_000
+        self.change_for_ever(self.file("a"), (long, len(FILE)))
+        met = collections.Counter()
+        for _ in range(40):
+            *lines, last = stackfilter.night(["a"] * 50).splitlines()
+            numbers = [line.split()[1] if line.startswith("refused") else "cleaned" for line in lines]
+            for line, number in zip(lines, numbers):
+                # What is read of a file that is cut meanwhile may end anywhere, and then not with the mark.
+                self.assertRegex(line, rf"^(5 1 1 80 0|refused 15 ({LONGEST_FILE + 1}|{long})|refused 16 \d{{1,5}})$")
+                met[number] += 1
+            under = [numbers.count(number) for number in DAMAGED]
+            self.assertEqual([int(number) for number in last.split()[:9]], [numbers.count("cleaned"), 0, 0, 0, 0, *under])
+            if met["cleaned"] and met["15"]:
+                return
+        self.fail(f"a sort of line was never met: {met}")
+
+    def change_for_ever(self, name, lengths):
+        """The file has these lengths in turn, until the test ends."""
+        ended = threading.Event()
+
+        def change():
+            while not ended.is_set():
+                for length in lengths:
+                    os.truncate(name, length)
+
+        writer = threading.Thread(target=change)
+        writer.start()
+        self.addCleanup(writer.join)
+        self.addCleanup(ended.set)
+
+
+class Watched:
+    """An open file, and how many bytes were read of it."""
+
+    def __init__(self, file):
+        self.file = file
+        self.given = 0
+
+    def __enter__(self):
+        return self
+
+    def __exit__(self, *_):
+        self.file.close()
+
+    def read(self, size):
+        piece = self.file.read(size)
+        self.given += len(piece)
+        return piece
+
+    def seek(self, *place):
+        return self.file.seek(*place)
 
 
 class Endless:

@@ -138,7 +138,7 @@ report 5 1 1 80 0
 
     def test_scan_file_says_what_is_refused(self):
         with mock.patch.object(stackfilter, "write", lambda terms, scan: b"damaged"), tempfile.TemporaryDirectory() as folder:
-            with self.assertRaisesRegex(SystemExit, "/scan: refused 11 0: the scan file is badly laid out$"):
+            with self.assertRaisesRegex(SystemExit, "/scan: refused 15 7: a scan file has 12 to 33,032 bytes, and this has 7$"):
                 self.printed("scan_file.py", f"{folder}/scan")
 
     def test_night_sheet(self):
@@ -147,8 +147,8 @@ report 5 1 1 80 0
 5 1 1 80 0
 5 1 1 80 0
 unopened
-refused 11 0
-2 1 0 0 0 1 10 2 2 160 0
+refused 18 15
+2 1 0 0 0 0 0 0 1 10 2 2 160 0
 """)
 
     def test_night_sheet_needs_a_folder(self):

@@ -53,6 +53,22 @@ class Sentences(unittest.TestCase):
         self.assertEqual(self.sentence(stackfilter.clean, [24, 16], [7]),
                          "refused 7 1: term 1 is over 511, not above its predecessor, or contains an earlier one")
 
+    def test_scan_files(self):
+        file = stackfilter.write([24, 40, 48], [10, 10, 90, 10, 10])
+        cases = [
+            (b"", "15 0: a scan file has 12 to 33,032 bytes, and this has 0"),
+            (bytes(40_000), "15 40000: a scan file has 12 to 33,032 bytes, and this has 40000"),
+            (file[:-1], "16 25: the mark 53 46 hex, which ends a scan file, does not stand at byte 25"),
+            (file[:24] + b"\4" + file[25:],
+             "17 20: the scan file's term distance, at byte 20, is not 12 + 2 x the number of terms"),
+            (file[1:],
+             "18 15: the scan file's sample distance, at byte 15, is not the file's length, is below the term distance, or"
+             " differs from it by an odd number"),
+        ]
+        for given, sentence in cases:
+            for call in (stackfilter.read, stackfilter.count):
+                self.assertEqual(self.sentence(call, given), "refused " + sentence)
+
     def test_lists_of_names(self):
         self.assertEqual(self.sentence(calls.night_list, b"day.scan\n\n"),
                          "refused 19 2: a name has 1 to 255 bytes, and line 2 of the list is empty or longer")

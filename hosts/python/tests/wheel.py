@@ -6,7 +6,7 @@ import zipfile
 
 ROOT = pathlib.Path(__file__).resolve().parents[3]
 VERSION = (ROOT / "VERSION").read_text().strip()
-OBJECT = f"libstackfilter.so.{VERSION.split('.')[0]}"
+OBJECT = f"libstackfilter.so.{VERSION.rpartition('.')[0]}"
 
 
 def faults(wheel):

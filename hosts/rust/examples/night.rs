@@ -16,7 +16,8 @@ fn main() -> Result<(), Box<dyn Error>> {
     fs::write(&day, &file)?;
     fs::write(&damaged, &file[1..])?;
 
-    // The last line: files cleaned, not opened, refused under 7, 8, 9 and 11, then what the cleaned files add up to.
+    // The last line: files cleaned, not opened, refused under 7, 8, 9, 15, 16, 17 and 18, then what the cleaned files add
+    // up to.
     print!("{}", night([&day, &day, &missing, &damaged])?);
     Ok(())
 }

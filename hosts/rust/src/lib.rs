@@ -298,13 +298,14 @@ pub struct ScanFile {
 
 /// The scan and the form that a scan file holds.
 ///
-/// Refuses 11, 7, 8, 9.
+/// Refuses 15, 16, 17, 18, 7, 8, 9.
 ///
 /// ```
 /// use stackfilter::{read, write, Refusal, ScanFile};
 /// let file = write(&[24, 40, 48], &[10, 10, 90])?;
 /// assert_eq!(read(&file)?, ScanFile { samples: vec![10, 10, 90], terms: vec![24, 40, 48] });
-/// assert_eq!(read(&file[1..]), Err(Refusal::Layout));
+/// assert_eq!(read(&file[1..]), Err(Refusal::SampleDistance { byte: 11 }));
+/// assert_eq!(read(&file[..11]), Err(Refusal::FileLength { bytes: 11 }));
 /// # Ok::<(), Refusal>(())
 /// ```
 pub fn read(file: &[u8]) -> Result<ScanFile, Refusal> {
@@ -319,7 +320,7 @@ pub fn read(file: &[u8]) -> Result<ScanFile, Refusal> {
 /// Writes the scan that a scan file holds to the start of `samples` and its form to the start of
 /// `terms`, and gives both numbers, of samples and of terms.
 ///
-/// Refuses 11, 7, 8, 9, 6, 10.
+/// Refuses 15, 16, 17, 18, 7, 8, 9, 6, 10.
 pub fn read_into(file: &[u8], samples: &mut [u16], terms: &mut [u16]) -> Result<(usize, usize), Refusal> {
     let mut terms_read = 0;
     let samples_read = answer(|value| unsafe {
@@ -387,7 +388,7 @@ pub struct Counts {
 
 /// Filters the scan that a scan file holds by the form beside it and counts what that changes.
 ///
-/// Refuses 11, 7, 8, 9.
+/// Refuses 15, 16, 17, 18, 7, 8, 9.
 ///
 /// ```
 /// use stackfilter::{count, write, Counts};
@@ -409,7 +410,7 @@ pub fn count(file: &[u8]) -> Result<Counts, Refusal> {
 /// use stackfilter::{line, write};
 /// let file = write(&[24, 40, 48], &[10, 10, 90, 10, 10])?;
 /// assert_eq!(line(&file), "5 1 1 80 0\n");
-/// assert_eq!(line(&file[1..]), "refused 11 0\n");
+/// assert_eq!(line(&file[1..]), "refused 18 15\n");
 /// # Ok::<(), stackfilter::Refusal>(())
 /// ```
 pub fn line(file: &[u8]) -> String {

@@ -41,7 +41,7 @@ pub const LONGEST_NAME: usize = 255;
 /// The bytes of the longest list: a line feed ends each name.
 pub const LONGEST_LIST: usize = MOST_NAMES * (LONGEST_NAME + 1);
 /// How many totals the night sheet has.
-pub const TOTALS: usize = 11;
+pub const TOTALS: usize = 14;
 /// The bytes that are lent for the night sheet's last line.
 pub const TOTALS_BYTES: usize = 512;
 

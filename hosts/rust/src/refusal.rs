@@ -1,8 +1,8 @@
 //! Why a call says no.
 
 use crate::limits::{
-    LAST_CODE, LONGEST_NAME, LONGEST_RECIPE, MOST_NAMES, MOST_SAMPLES, MOST_TERMS, PATTERNS, PRESETS, REACH,
-    STEP_BYTES, TABLE_BYTES,
+    LAST_CODE, LONGEST_FILE, LONGEST_NAME, LONGEST_RECIPE, MOST_NAMES, MOST_SAMPLES, MOST_TERMS, PATTERNS,
+    PRESETS, REACH, STEP_BYTES, TABLE_BYTES, TRAILER_BYTES, WORD_BYTES,
 };
 use std::error::Error;
 use std::fmt;
@@ -73,8 +73,6 @@ pub enum Refusal {
         /// The length needed.
         needed: usize,
     },
-    /// 11: the scan file is badly laid out.
-    Layout,
     /// 12: the truth table is not positive.
     NotPositive {
         /// The least pattern with value 1 that one more offset turns to 0.
@@ -89,6 +87,28 @@ pub enum Refusal {
     PresetNumber {
         /// The number.
         number: usize,
+    },
+    /// 15: the scan file's length is outside 12 to 33,032 bytes.
+    FileLength {
+        /// Its whole length.
+        bytes: usize,
+    },
+    /// 16: the scan file does not end with the mark 53 46 hex.
+    Mark {
+        /// The mark's first byte, from the file's start.
+        byte: usize,
+    },
+    /// 17: the scan file's term distance is not 12 + 2 x the number of terms; a wrong number of terms shows here
+    /// too.
+    TermDistance {
+        /// The term distance's first byte, from the file's start.
+        byte: usize,
+    },
+    /// 18: the scan file's sample distance is not the file's length, is below the term distance, or differs
+    /// from it by an odd number.
+    SampleDistance {
+        /// The sample distance's first byte, from the file's start.
+        byte: usize,
     },
     /// 19: a line of a list of names is empty, or over 255 bytes.
     BadName {
@@ -125,17 +145,20 @@ impl Refusal {
             8 => Refusal::TermCount { terms: place },
             9 => Refusal::ScanLength { samples: place },
             10 => Refusal::OutputLength { needed: place },
-            11 => Refusal::Layout,
             12 => Refusal::NotPositive { pattern: place },
             13 => Refusal::TableLength { bytes: place },
             14 => Refusal::PresetNumber { number: place },
+            15 => Refusal::FileLength { bytes: place },
+            16 => Refusal::Mark { byte: place },
+            17 => Refusal::TermDistance { byte: place },
+            18 => Refusal::SampleDistance { byte: place },
             19 => Refusal::BadName { line: place },
             20 => Refusal::NameCount,
             _ => panic!("the archive refused with the number {number}, which this package does not know"),
         }
     }
 
-    /// The refusal's number, 1 to 14, 19 or 20.
+    /// The refusal's number: 1 to 10 or 12 to 20.
     pub fn number(&self) -> u8 {
         match self {
             Refusal::RecipeLength { .. } => 1,
@@ -148,32 +171,39 @@ impl Refusal {
             Refusal::TermCount { .. } => 8,
             Refusal::ScanLength { .. } => 9,
             Refusal::OutputLength { .. } => 10,
-            Refusal::Layout => 11,
             Refusal::NotPositive { .. } => 12,
             Refusal::TableLength { .. } => 13,
             Refusal::PresetNumber { .. } => 14,
+            Refusal::FileLength { .. } => 15,
+            Refusal::Mark { .. } => 16,
+            Refusal::TermDistance { .. } => 17,
+            Refusal::SampleDistance { .. } => 18,
             Refusal::BadName { .. } => 19,
             Refusal::NameCount => 20,
         }
     }
 
-    /// The place at fault: a step, an index, a pattern, a number, a line, or the length or size that was
-    /// given (1, 8, 9, 13) or is needed (6, 10). It is 0 for a scan file badly laid out, and 250 for a list
-    /// of too many names.
+    /// The place at fault: a step, an index, a pattern, a number, a line, the first byte of a scan file's field
+    /// (16, 17, 18), or the length or size that was given (1, 8, 9, 13, 15) or is needed (6, 10). It is 250 for a
+    /// list of too many names.
     pub fn place(&self) -> usize {
         match *self {
             Refusal::StepCode { step }
             | Refusal::StepField { step }
             | Refusal::SignalsHeld { step, .. }
             | Refusal::Reach { step } => step,
-            Refusal::RecipeLength { bytes } | Refusal::TableLength { bytes } => bytes,
+            Refusal::RecipeLength { bytes }
+            | Refusal::TableLength { bytes }
+            | Refusal::FileLength { bytes } => bytes,
             Refusal::TermsLent { needed } | Refusal::OutputLength { needed } => needed,
             Refusal::BadTerm { index } => index,
             Refusal::TermCount { terms } => terms,
             Refusal::ScanLength { samples } => samples,
-            Refusal::Layout => 0,
             Refusal::NotPositive { pattern } => pattern,
             Refusal::PresetNumber { number } => number,
+            Refusal::Mark { byte } | Refusal::TermDistance { byte } | Refusal::SampleDistance { byte } => {
+                byte
+            }
             Refusal::BadName { line } => line,
             Refusal::NameCount => MOST_NAMES,
         }
@@ -188,6 +218,11 @@ fn held(place: usize, recipe: &[u8]) -> Held {
         Some(0) => Held::Ninth,
         Some(_) => Held::TooFew,
     }
+}
+
+/// A number of four to six digits, with a comma behind its thousands.
+fn by_thousands(number: usize) -> String {
+    format!("{},{:03}", number / 1000, number % 1000)
 }
 
 impl fmt::Display for Refusal {
@@ -226,13 +261,12 @@ impl fmt::Display for Refusal {
                 write!(f, "a form has at most {MOST_TERMS} terms, and this has {place}")
             }
             Refusal::ScanLength { .. } => {
-                let (thousands, rest) = (MOST_SAMPLES / 1000, MOST_SAMPLES % 1000);
-                write!(f, "a scan has 1 to {thousands},{rest:03} samples, and this has {place}")
+                let most = by_thousands(MOST_SAMPLES);
+                write!(f, "a scan has 1 to {most} samples, and this has {place}")
             }
             Refusal::OutputLength { .. } => {
                 write!(f, "the output has the wrong length, and {place} is needed")
             }
-            Refusal::Layout => write!(f, "the scan file is badly laid out"),
             Refusal::NotPositive { .. } => {
                 write!(f, "the truth table is 1 on pattern {place} and 0 with one offset more, so it is not positive")
             }
@@ -242,6 +276,26 @@ impl fmt::Display for Refusal {
             Refusal::PresetNumber { .. } => {
                 let last = PRESETS - 1;
                 write!(f, "presets have the numbers 0 to {last}, and {place} was asked for")
+            }
+            Refusal::FileLength { .. } => {
+                let longest = by_thousands(LONGEST_FILE);
+                write!(f, "a scan file has {TRAILER_BYTES} to {longest} bytes, and this has {place}")
+            }
+            Refusal::Mark { .. } => {
+                write!(f, "the mark 53 46 hex, which ends a scan file, does not stand at byte {place}")
+            }
+            Refusal::TermDistance { .. } => {
+                write!(
+                    f,
+                    "the scan file's term distance, at byte {place}, is not {TRAILER_BYTES} + {WORD_BYTES} x the number of terms"
+                )
+            }
+            Refusal::SampleDistance { .. } => {
+                write!(
+                    f,
+                    "the scan file's sample distance, at byte {place}, is not the file's length, is below the term distance, \
+                     or differs from it by an odd number"
+                )
             }
             Refusal::BadName { .. } => {
                 write!(

@@ -170,7 +170,8 @@ fn files_are_written_read_and_counted() {
     assert_eq!(read(&file), Ok(ScanFile { samples: scan.to_vec(), terms: terms.to_vec() }));
     assert_eq!(count(&file), Ok(Counts { samples: 5, changed: 1, spikes: 1, above: 80, below: 0 }));
     assert_eq!(line(&file), "5 1 1 80 0\n");
-    assert_eq!((count(&[]), line(&[])), (Err(Refusal::Layout), "refused 11 0\n".to_string()));
+    assert_eq!(count(&[]), Err(Refusal::FileLength { bytes: 0 }));
+    assert_eq!(line(&[]), "refused 15 0\n");
 
     // A spike up beside a spike down is two.
     let two = write(&terms, &[10, 10, 90, 0, 10, 10]).unwrap();
@@ -199,6 +200,54 @@ fn files_are_written_read_and_counted() {
     let mut short = [3; 27];
     assert_eq!(write_into(&terms, &scan, &mut short), Err(Refusal::OutputLength { needed: 28 }));
     assert_eq!(short, [3; 27]);
+}
+
+#[test]
+fn damaged_files_are_refused_by_the_field_at_fault() {
+    let sound = write(&[24, 40, 48], &[10, 10, 90, 10, 10]).unwrap();
+    // Where the trailer's fields begin.
+    let [sample_distance, term_distance, terms, mark] = [16, 20, 24, 26];
+    let bad_samples = Refusal::SampleDistance { byte: sample_distance };
+    let bad_terms = Refusal::TermDistance { byte: term_distance };
+    let bad_mark = Refusal::Mark { byte: mark };
+    // Bytes of the file, each with what it becomes.
+    let cases: [(&[(usize, u8)], Refusal); 13] = [
+        (&[(mark, 0x54)], bad_mark),
+        (&[(mark + 1, 0x52)], bad_mark),
+        (&[(term_distance, 20)], bad_terms),
+        (&[(term_distance + 3, 1)], bad_terms),
+        (&[(terms, 4)], bad_terms),
+        (&[(terms + 1, 0x80)], bad_terms),
+        (&[(sample_distance, 26)], bad_samples),
+        (&[(sample_distance, 18)], bad_samples),
+        (&[(sample_distance + 3, 255)], bad_samples),
+        // Nine terms fit their distance, which is beyond the file's start.
+        (&[(term_distance, 30), (terms, 9)], bad_samples),
+        // Of several faults the first tested is told.
+        (&[(sample_distance, 0), (mark, 0)], bad_mark),
+        (&[(sample_distance, 0), (terms, 0)], bad_terms),
+        (&[(term_distance, 0), (terms, 0), (mark, 0)], bad_mark),
+    ];
+    for (edits, refusal) in cases {
+        let mut file = sound.clone();
+        edits.iter().for_each(|(byte, value)| file[*byte] = *value);
+        assert_eq!(read(&file), Err(refusal), "{edits:?}");
+        assert_eq!(count(&file), Err(refusal), "{edits:?}");
+        assert_eq!(line(&file), format!("refused {} {}\n", refusal.number(), refusal.place()));
+    }
+
+    // An odd number of bytes before the terms, and else nothing wrong.
+    let odd = [7, 16, 0, 15, 0, 0, 0, 14, 0, 0, 0, 1, 0, 0x53, 0x46];
+    assert_eq!(read(&odd), Err(Refusal::SampleDistance { byte: 3 }));
+
+    let longest = write(&preset(10).unwrap(), &[7; MOST_SAMPLES]).unwrap();
+    for bytes in [0, 1, TRAILER_BYTES - 1, LONGEST_FILE + 1, 1 << 20] {
+        let mut file = longest.repeat(bytes / longest.len() + 1);
+        file.drain(..file.len() - bytes);
+        assert_eq!(read(&file), Err(Refusal::FileLength { bytes }));
+        assert_eq!(line(&file), format!("refused 15 {bytes}\n"));
+    }
+    assert_eq!(read(&longest[longest.len() - TRAILER_BYTES..]), Err(Refusal::SampleDistance { byte: 0 }));
 }
 
 #[test]

@@ -66,16 +66,19 @@ fn what_is_too_long_costs_no_output() {
     refused(&|| write(&scan, &scan).err(), unsorted);
 
     let file = vec![7; 100 * LONGEST_FILE];
-    refused(&|| read(&file).err(), Refusal::Layout);
+    refused(&|| read(&file).err(), Refusal::FileLength { bytes: file.len() });
 
     // A night reads no more of a file than tells that it is too long, and takes no more names than tell that
     // they are too many.
     let path = env::temp_dir().join(format!("stackfilter-memory-{}", process::id()));
     fs::write(&path, &file).unwrap();
-    let (sheet, asked) = watch(|| night(vec![&path; 3]));
+    for bytes in [file.len() as u64, 10_000_000_000] {
+        fs::OpenOptions::new().write(true).open(&path).unwrap().set_len(bytes).unwrap();
+        let (sheet, asked) = watch(|| night(vec![&path; 3]));
+        assert_eq!(sheet.unwrap().lines().next(), Some(&*format!("refused 15 {bytes}")));
+        assert!(asked <= 2 * LONGEST_FILE, "{asked} bytes");
+    }
     fs::remove_file(&path).unwrap();
-    assert_eq!(sheet.unwrap().lines().next(), Some("refused 11 0"));
-    assert!(asked <= 2 * LONGEST_FILE, "{asked} bytes");
     let (sheet, asked) = watch(|| night(std::iter::repeat("a name")));
     assert_eq!(sheet.as_deref(), Ok("refused 20 250\n"));
     assert!(asked <= 2 * LONGEST_LIST, "{asked} bytes");

@@ -8,7 +8,7 @@ use std::path::Path;
 const PLACE: usize = 777_777;
 
 /// Every refusal at that place, in the order of their numbers.
-const REFUSALS: [Refusal; 16] = [
+const REFUSALS: [Refusal; 19] = [
     Refusal::RecipeLength { bytes: PLACE },
     Refusal::StepCode { step: PLACE },
     Refusal::StepField { step: PLACE },
@@ -19,10 +19,13 @@ const REFUSALS: [Refusal; 16] = [
     Refusal::TermCount { terms: PLACE },
     Refusal::ScanLength { samples: PLACE },
     Refusal::OutputLength { needed: PLACE },
-    Refusal::Layout,
     Refusal::NotPositive { pattern: PLACE },
     Refusal::TableLength { bytes: PLACE },
     Refusal::PresetNumber { number: PLACE },
+    Refusal::FileLength { bytes: PLACE },
+    Refusal::Mark { byte: PLACE },
+    Refusal::TermDistance { byte: PLACE },
+    Refusal::SampleDistance { byte: PLACE },
     Refusal::BadName { line: PLACE },
     Refusal::NameCount,
 ];
@@ -83,11 +86,7 @@ fn each_has_its_place_and_its_own_sentence() {
     let mut sentences = Vec::new();
     let held = [Held::Ninth, Held::NotOne].map(|held| Refusal::SignalsHeld { step: PLACE, held });
     for refusal in REFUSALS.iter().chain(&held) {
-        let fixed = match refusal {
-            Refusal::Layout => Some(0),
-            Refusal::NameCount => Some(MOST_NAMES),
-            _ => None,
-        };
+        let fixed = (*refusal == Refusal::NameCount).then_some(MOST_NAMES);
         assert_eq!(refusal.place(), fixed.unwrap_or(PLACE));
         assert_eq!(figures(&refusal.to_string()).contains(&PLACE), fixed.is_none(), "{refusal}");
         sentences.push(refusal.to_string());
@@ -95,4 +94,35 @@ fn each_has_its_place_and_its_own_sentence() {
     sentences.sort();
     sentences.dedup();
     assert_eq!(sentences.len(), REFUSALS.len() + held.len());
+}
+
+#[test]
+fn a_scan_file_is_told_what_is_wrong_and_where() {
+    let cases = [
+        (
+            Refusal::FileLength { bytes: 5_000_000_000 },
+            (15, 5_000_000_000),
+            "a scan file has 12 to 33,032 bytes, and this has 5000000000",
+        ),
+        (
+            Refusal::Mark { byte: 26 },
+            (16, 26),
+            "the mark 53 46 hex, which ends a scan file, does not stand at byte 26",
+        ),
+        (
+            Refusal::TermDistance { byte: 20 },
+            (17, 20),
+            "the scan file's term distance, at byte 20, is not 12 + 2 x the number of terms",
+        ),
+        (
+            Refusal::SampleDistance { byte: 16 },
+            (18, 16),
+            "the scan file's sample distance, at byte 16, is not the file's length, is below the term distance, \
+             or differs from it by an odd number",
+        ),
+    ];
+    for (refusal, number_and_place, sentence) in cases {
+        assert_eq!((refusal.number(), refusal.place()), number_and_place);
+        assert_eq!(refusal.to_string(), sentence);
+    }
 }

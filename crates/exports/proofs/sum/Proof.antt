@@ -16,8 +16,8 @@ totals-in-requires c κs = search needs
 add-requires : tie.Need-add-requires
 add-requires c κs = search needs
 
-eleven-of-requires : tie.Need-eleven-of-requires
-eleven-of-requires c κs = search needs
+in-order-requires : tie.Need-in-order-requires
+in-order-requires c κs = search needs
 
 enum-told-2 : tie.Need-enum-told-2
 enum-told-2 c = search needs
@@ -28,7 +28,7 @@ returns c =
     let read = summed .before in
     let fine = read .before in
     let e = sym (fine .before .before .check-lent .ensures) ∙ fine .enum-told .given .1 in
-    rw (e, c .eleven-of .ensures, summed .add .ensures, read .totals-in .ensures)
+    rw (e, c .in-order .ensures, summed .add .ensures, read .totals-in .ensures)
 
 returns-2 : tie.Need-returns-2
 returns-2 c =
@@ -43,7 +43,7 @@ sum-spec =
     enum-told
     totals-in-requires
     add-requires
-    eleven-of-requires
+    in-order-requires
     enum-told-2
     returns
     returns-2)

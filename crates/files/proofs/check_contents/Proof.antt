@@ -11,7 +11,8 @@ use Rattle.refusals.specs.declared.Checked.{Checked}
 use Rattle.forms.specs.Check.{formChecked}
 use Rattle.files.specs.Bytes.{wordsFrom}
 use Rattle.files.specs.Layout.{termsDistance, fileTerms}
-use Rattle.files.proofs.Layouts.{Laid, well-laid}
+use Rattle.files.specs.Causes.{Laid}
+use Rattle.files.proofs.Layouts.{well-laid}
 use Rattle.files.proofs.check_contents.Statement.{statement}
 use Rattle.files.proofs.check_contents.Tie as tie
 

@@ -2,7 +2,8 @@
 use borrow.Author.Needs.{needs}
 use native.Mathlib.Omega.{arith}
 use Rattle.files.specs.Layout.{sampleCount}
-use Rattle.files.proofs.Layouts.{Laid, well-laid}
+use Rattle.files.specs.Causes.{Laid}
+use Rattle.files.proofs.Layouts.{well-laid}
 use Rattle.files.proofs.count_samples.Statement.{statement}
 use Rattle.files.proofs.count_samples.Tie as tie
 

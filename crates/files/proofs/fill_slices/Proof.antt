@@ -5,7 +5,8 @@ use mathlib.Core.Path.{_≡_, ap₂, _∙_}
 use lib.ListN.{length}
 use Rattle.files.specs.declared.ReadAnswer.the-variants as answer
 use Rattle.files.specs.Layout.{countsFamily, termCount, termsDistance, fileTerms, fileLength, sampleCount}
-use Rattle.files.proofs.Layouts.{Laid, counts-usable, laid-well, whole, first-term, samples-lie, samples-counted, terms-counted}
+use Rattle.files.specs.Causes.{Laid}
+use Rattle.files.proofs.Layouts.{counts-usable, laid-well, whole, first-term, samples-lie, samples-counted, terms-counted}
 use Rattle.files.proofs.Accepts.{Fit, fine-read}
 use Rattle.files.proofs.fill_slices.Statement.{statement}
 use Rattle.files.proofs.fill_slices.Tie as tie

@@ -1,6 +1,5 @@
 -- `lines::line` meets its contract: the line of what was counted is that of the file. Assumes nothing.
 use borrow.Author.Needs.{needs}
-use Rattle.lines.proofs.Counted.{line-counted}
 use Rattle.lines.proofs.line.Statement.{statement}
 use Rattle.lines.proofs.line.Tie as tie
 
@@ -16,8 +15,7 @@ same-length c = search needs
 returns : tie.Need-returns
 returns c =
     let wrote = c .before .before in
-    let counted = wrote .before .before in
-    rw (line-counted (counted .before .before .before .args .file .now) (counted .count .ensures)) at (wrote .outcome-line .ensures)
+    rw (wrote .before .before .count .ensures) at (wrote .outcome-line .ensures)
 
 pub line-spec : {M : Type 1} → statement M
 line-spec = tie.close (tie.spec count-requires outcome-line-requires same-length returns)

@@ -55,9 +55,6 @@ array-share-prefix-text c = search needs
 slice-aggregate-print-sheet : tie.Need-slice-aggregate-print-sheet
 slice-aggregate-print-sheet c = search needs
 
-slice-aggregate-print-sheet-2 : tie.Need-slice-aggregate-print-sheet-2
-slice-aggregate-print-sheet-2 c = search needs
-
 print-sheet-requires : tie.Need-print-sheet-requires
 print-sheet-requires c κs =
     let told = c .before .before .before in
@@ -89,6 +86,5 @@ main-spec =
     file-room-requires
     array-share-prefix-text
     slice-aggregate-print-sheet
-    slice-aggregate-print-sheet-2
     print-sheet-requires
     returns-4)

@@ -2,7 +2,6 @@
 use borrow.Author.Needs.{needs}
 use Prim.Native.Nat.{_-_, _≤_}
 use native.Mathlib.Omega.{arith}
-use mathlib.Core.Path.{_≡_, refl, _∙_}
 use lib.ListN.{length}
 use Rattle.lists.proofs.Ends.{end-within}
 use Rattle.lists.proofs.Sizes.{accepted-short}
@@ -11,24 +10,23 @@ use Rattle.night.proofs.print_files.Statement.{statement}
 use Rattle.night.proofs.print_files.Tie as tie
 
 abbrev Inv-loop : tie.InvT-loop
-Inv-loop text file₀ totals₀ place₀ file totals place = (length file ≡ length file₀) × SoFar text place totals
+Inv-loop text room₀ totals₀ place₀ room totals place = SoFar text place totals
 
 abbrev μ-loop : tie.MeasureT-loop
-μ-loop text file₀ totals₀ place₀ file totals place = length text - place
+μ-loop text room₀ totals₀ place₀ room totals place = length text - place
 
 start-requires : tie.Need-start-requires Inv-loop μ-loop
 start-requires c κs = search needs
 
 loop-holds : tie.Need-loop-holds Inv-loop μ-loop
 loop-holds c =
-    let list = c .before .before .before .args .text .now in
-    (refl, rw (c .start .ensures) (sheet-starts list))
+    rw (c .start .ensures) (sheet-starts (c .before .before .args .text .now))
 
 line-end-requires : tie.Need-line-end-requires Inv-loop μ-loop
 line-end-requires c κs = search needs
 
 -- the line at hand lies in the list
-ends : (c : tie.After-line-end Inv-loop μ-loop) → (c .before .before .loop .place ≤ c .line-end .result) × (c .line-end .result ≤ length (c .before .before .before .before .before .before .args .text .now))
+ends : (c : tie.After-line-end Inv-loop μ-loop) → (c .before .before .loop .place ≤ c .line-end .result) × (c .line-end .result ≤ length (c .before .before .before .before .before .args .text .now))
 ends c = rw (c .line-end .ensures) (end-within _ _ (search needs))
 
 sub-outcome-of : tie.Need-sub-outcome-of Inv-loop μ-loop
@@ -46,9 +44,6 @@ outcome-of-requires c κs = search needs
 print-outcome-requires : tie.Need-print-outcome-requires Inv-loop μ-loop
 print-outcome-requires c κs = search needs
 
-same-length : tie.Need-same-length Inv-loop μ-loop
-same-length c = search needs
-
 returns : tie.Need-returns Inv-loop μ-loop
 returns c = search needs
 
@@ -57,33 +52,28 @@ add-requires c κs = search needs
 
 add-place : tie.Need-add-place Inv-loop μ-loop
 add-place c =
-    let line = c .before .before .before .before .before .before .before .before in
-    let start = line .before .before .before .before .before .before in
+    let line = c .before .before .before .before .before .before in
+    let start = line .before .before .before .before .before in
     omega (arith, ends line, accepted-short (start .args .text .now) (start .pre))
 
 loop-less : tie.Need-loop-less Inv-loop μ-loop
 loop-less c =
-    let line = c .before .before .before .before .before .before .before .before in
+    let line = c .before .before .before .before .before .before in
     omega (arith, ends line)
 
 loop-again : tie.Need-loop-again Inv-loop μ-loop
 loop-again c =
-    let became = c .before .before .before .before .before in
+    let became = c .before .before .before in
     let line = became .before .before .before in
     let at = line .before .before in
-    let list = at .before .before .before .before .args .text .now in (
-      became .outcome-of .kept .1 .0 ∙ at .loop .inv .0,
-      rw (c .add .ensures, line .line-end .ensures) (sheet-goes-on list (at .loop .place) (at .loop .totals) (became .outcome-of .result) (search needs) (became .outcome-of .ensures) (at .loop .inv .1)),
-    )
-
-same-length-2 : tie.Need-same-length-2 Inv-loop μ-loop
-same-length-2 c = search needs
+    let list = at .before .before .before .args .text .now in
+    rw (c .add .ensures, line .line-end .ensures) (sheet-goes-on list (at .loop .place) (at .loop .totals) (became .outcome-of .result) (search needs) (became .outcome-of .ensures) (at .loop .inv))
 
 returns-2 : tie.Need-returns-2 Inv-loop μ-loop
 returns-2 c =
     let at = c .before in
-    let start = at .before .before .before .before in
-    sheet-ends (start .args .text .now) (at .loop .place) (at .loop .totals) (start .pre) (search needs) (at .loop .inv .1)
+    let start = at .before .before .before in
+    sheet-ends (start .args .text .now) (at .loop .place) (at .loop .totals) (start .pre) (search needs) (at .loop .inv)
 
 pub print-files-spec : {M : Type 1} → statement M
 print-files-spec =
@@ -99,11 +89,9 @@ print-files-spec =
     part-outcome-of-end
     outcome-of-requires
     print-outcome-requires
-    same-length
     returns
     add-requires
     add-place
     loop-less
     loop-again
-    same-length-2
     returns-2)

@@ -1,19 +1,9 @@
 -- `system::complain` meets its contract: an error's number is positive. Assumes nothing.
 use borrow.Author.Needs.{needs}
-use Prim.Native.Nat.{ℕ}
-use native.Mathlib.Omega.{arith}
-use mathlib.Core.Path.{_≡_}
-use mathlib.Core.Bool.{true}
-use lib.Dec.{T}
-use lib.IntN.{ℤ, pos, negsuc}
-use lib.Signed.{ltZ, nonNeg}
 use mir.Facts.{toZ-ofZ, fits-natAbs}
+use Rattle.system.proofs.Signs.{positive}
 use Rattle.system.proofs.complain.Statement.{statement}
 use Rattle.system.proofs.complain.Tie as tie
-
-positive : (z : ℤ) → ltZ (pos 0) z ≡ true → T (nonNeg z)
-positive (pos n) e = tt
-positive (negsuc n) e = let z : _≡_ {A = ℕ} 0 1 = cc in absurd (omega arith)
 
 write-all-requires : tie.Need-write-all-requires
 write-all-requires c κs = search needs

@@ -13,16 +13,22 @@ Inv-loop fd input₀ read₀ left₀ input read left = (length input ≡ length 
 abbrev μ-loop : tie.MeasureT-loop
 μ-loop fd input₀ read₀ left₀ input read left = left
 
+going-on-requires : tie.Need-going-on-requires Inv-loop μ-loop
+going-on-requires c κs = search needs
+
 loop-holds : tie.Need-loop-holds Inv-loop μ-loop
 loop-holds c = (refl, search needs)
 
 same-length : tie.Need-same-length Inv-loop μ-loop
 same-length c = search needs
 
+over-requires : tie.Need-over-requires Inv-loop μ-loop
+over-requires c κs = search needs
+
 returns : tie.Need-returns Inv-loop μ-loop
 returns c =
-    let at = c .before .before .before in
-    (at .loop .inv .1, sym (length-take-le (at .loop .read .bytes) (at .loop .input) (at .loop .inv .1)))
+    let at = c .before .before .before .before in
+    rw (c .over .ensures) (at .loop .inv .1, sym (length-take-le (at .loop .read .bytes) (at .loop .input) (at .loop .inv .1)))
 
 sub-left : tie.Need-sub-left Inv-loop μ-loop
 sub-left c = search needs
@@ -50,7 +56,9 @@ read-all-spec =
     (tie.spec
     Inv-loop
     μ-loop
+    going-on-requires
     loop-holds
+    over-requires
     same-length
     returns
     sub-left

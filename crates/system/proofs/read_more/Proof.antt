@@ -51,18 +51,23 @@ part-count-end c = search needs
 count-requires : tie.Need-count-requires
 count-requires c κs = search needs
 
-add-t9 : tie.Need-add-t9
-add-t9 c = search needs
+add-going-on : tie.Need-add-going-on
+add-going-on c = search needs
+
+going-on-requires : tie.Need-going-on-requires
+going-on-requires c κs = search needs
 
 same-length-2 : tie.Need-same-length-2
 same-length-2 c = search needs
 
 returns-3 : tie.Need-returns-3
 returns-3 c =
-    let read = c .before .before .before .before .before .before in
+    let counted = c .before in
+    let read = counted .before .before .before .before .before .before in
     let a = read .before .before .before .before .args in
-    let room : a .bytes + c .count .result ≤ length (a .input .now) = search needs in
-    reads-on (a .bytes) (length (a .input .now) - a .bytes) (a .input .now) (read .read .last .1 .0) (a .bytes + c .count .result) (search needs) (omega arith) room
+    let same : c .going-on .result .bytes ≡ a .bytes + counted .count .result = c .going-on .ensures in
+    let room : a .bytes + counted .count .result ≤ length (a .input .now) = search needs in
+    reads-on (a .bytes) (length (a .input .now) - a .bytes) (a .input .now) (read .read .last .1 .0) _ (search needs) (omega (arith, same)) (rw same room)
 
 pub read-more-spec : {M : Type 1} → statement M
 read-more-spec =
@@ -81,6 +86,7 @@ read-more-spec =
     part-count-start
     part-count-end
     count-requires
-    add-t9
+    add-going-on
+    going-on-requires
     same-length-2
     returns-3)

@@ -1,4 +1,4 @@
--- `totals::add` meets its contract: eleven sums, each modulo 2^64. Assumes nothing.
+-- `totals::add` meets its contract: each field is a sum modulo 2^64. Assumes nothing.
 use borrow.Author.Needs.{needs}
 use Rattle.totals.specs.Totals.{eachField, added}
 use Rattle.totals.proofs.add.Statement.{statement}
@@ -40,10 +40,22 @@ wrapping-add-u64-requires-10 c κs = search needs
 wrapping-add-u64-requires-11 : tie.Need-wrapping-add-u64-requires-11
 wrapping-add-u64-requires-11 c κs = search needs
 
+wrapping-add-u64-requires-12 : tie.Need-wrapping-add-u64-requires-12
+wrapping-add-u64-requires-12 c κs = search needs
+
+wrapping-add-u64-requires-13 : tie.Need-wrapping-add-u64-requires-13
+wrapping-add-u64-requires-13 c κs = search needs
+
+wrapping-add-u64-requires-14 : tie.Need-wrapping-add-u64-requires-14
+wrapping-add-u64-requires-14 c κs = search needs
+
 returns : tie.Need-returns
 unfolding added eachField
 returns c =
-    let w10 = c .before in
+    let w13 = c .before in
+    let w12 = w13 .before in
+    let w11 = w12 .before in
+    let w10 = w11 .before in
     let w9 = w10 .before in
     let w8 = w9 .before in
     let w7 = w8 .before in
@@ -61,12 +73,15 @@ returns c =
       seven = w3 .wrapping-add-u643 .ensures i;
       eight = w4 .wrapping-add-u644 .ensures i;
       nine = w5 .wrapping-add-u645 .ensures i;
-      eleven = w6 .wrapping-add-u646 .ensures i;
-      samples = w7 .wrapping-add-u647 .ensures i;
-      changed = w8 .wrapping-add-u648 .ensures i;
-      spikes = w9 .wrapping-add-u649 .ensures i;
-      up = w10 .wrapping-add-u6410 .ensures i;
-      down = c .wrapping-add-u6411 .ensures i;
+      fifteen = w6 .wrapping-add-u646 .ensures i;
+      sixteen = w7 .wrapping-add-u647 .ensures i;
+      seventeen = w8 .wrapping-add-u648 .ensures i;
+      eighteen = w9 .wrapping-add-u649 .ensures i;
+      samples = w10 .wrapping-add-u6410 .ensures i;
+      changed = w11 .wrapping-add-u6411 .ensures i;
+      spikes = w12 .wrapping-add-u6412 .ensures i;
+      up = w13 .wrapping-add-u6413 .ensures i;
+      down = c .wrapping-add-u6414 .ensures i;
     })
 
 pub add-spec : {M : Type 1} → statement M
@@ -85,4 +100,7 @@ add-spec =
     wrapping-add-u64-requires-9
     wrapping-add-u64-requires-10
     wrapping-add-u64-requires-11
+    wrapping-add-u64-requires-12
+    wrapping-add-u64-requires-13
+    wrapping-add-u64-requires-14
     returns)

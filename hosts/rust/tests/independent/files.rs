@@ -1,6 +1,7 @@
 //! The scan file.
 
 use super::limits::{file_bytes, COUNT_BYTES, DISTANCE_BYTES, LONGEST_FILE, MARK, TRAILER, WORD_BYTES};
+use super::No;
 
 /// Samples, terms and the trailer that points back, whatever they are.
 pub fn lay_out(samples: &[u16], terms: &[u16]) -> Vec<u8> {
@@ -14,28 +15,42 @@ pub fn lay_out(samples: &[u16], terms: &[u16]) -> Vec<u8> {
     file
 }
 
-/// The samples and the terms of a file that is laid out well.
-pub fn take_apart(file: &[u8]) -> Option<(Vec<u16>, Vec<u16>)> {
-    if !(TRAILER..=LONGEST_FILE).contains(&file.len()) || !file.ends_with(&MARK) {
-        return None;
+/// The samples and the terms of a file, or refusals 15 to 18. The trailer's fields are taken off the file's end: as
+/// many bytes as are left then, so many stand before the field.
+pub fn take_apart(file: &[u8]) -> Result<(Vec<u16>, Vec<u16>), No> {
+    if !(TRAILER..=LONGEST_FILE).contains(&file.len()) {
+        return Err((15, file.len()));
     }
-    let (body, trailer) = file.split_at(file.len() - TRAILER);
-    let (sample_distance, rest) = trailer.split_at(DISTANCE_BYTES);
-    let (term_distance, rest) = rest.split_at(DISTANCE_BYTES);
-    let (sample_distance, term_distance) = (number(sample_distance), number(term_distance));
-    let well = term_distance == file_bytes(0, number(&rest[..COUNT_BYTES]))
-        && sample_distance == file.len()
-        && sample_distance >= term_distance
-        && (sample_distance - term_distance) % WORD_BYTES == 0;
-    if !well {
-        return None;
+    let (rest, mark) = end_of(file, MARK.len());
+    if mark != MARK {
+        return Err((16, rest.len()));
     }
-    let numbers = |bytes: &[u8]| bytes.chunks(WORD_BYTES).map(|word| number(word) as u16).collect();
-    let (samples, terms) = body.split_at(file.len() - term_distance);
-    Some((numbers(samples), numbers(terms)))
+    let (rest, count) = end_of(rest, COUNT_BYTES);
+    let (rest, term_distance) = end_of(rest, DISTANCE_BYTES);
+    if number(term_distance) != file_bytes(0, number(count)) {
+        return Err((17, rest.len()));
+    }
+    let (body, sample_distance) = end_of(rest, DISTANCE_BYTES);
+    let before_terms = body.len().checked_sub(WORD_BYTES * number(count));
+    match before_terms {
+        Some(bytes) if bytes % WORD_BYTES == 0 && number(sample_distance) == file.len() => {
+            let (samples, terms) = body.split_at(bytes);
+            Ok((numbers(samples), numbers(terms)))
+        }
+        _ => Err((18, body.len())),
+    }
+}
+
+/// What stands before the last bytes, so many of them, and these.
+fn end_of(bytes: &[u8], last: usize) -> (&[u8], &[u8]) {
+    bytes.split_at(bytes.len() - last)
+}
+
+fn numbers(words: &[u8]) -> Vec<u16> {
+    words.chunks(WORD_BYTES).map(|word| number(word) as u16).collect()
 }
 
 /// The number whose bytes stand low first.
-fn number(bytes: &[u8]) -> usize {
+pub fn number(bytes: &[u8]) -> usize {
     bytes.iter().rev().fold(0, |high, byte| 256 * high + *byte as usize)
 }

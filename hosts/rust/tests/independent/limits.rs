@@ -40,7 +40,7 @@ pub const MOST_NAMES: usize = 250;
 pub const LONGEST_NAME: usize = 255;
 pub const LINE_FEED: u8 = 10;
 /// The numbers of the night sheet's last line, and what is lent for it.
-pub const TOTALS: usize = 11;
+pub const TOTALS: usize = 14;
 pub const TOTALS_BYTES: usize = 512;
 
 // What follows is what the document says in figures.

@@ -146,7 +146,7 @@ pub fn night_totals(totals: [u64; TOTALS], lent: usize) -> Result<Vec<u8>, No> {
 }
 
 fn read_sound(file: &[u8]) -> Result<(Vec<u16>, Vec<u16>), No> {
-    let (samples, terms) = files::take_apart(file).ok_or((11, 0))?;
+    let (samples, terms) = files::take_apart(file)?;
     forms::check(&terms)?;
     check_scan(samples.len())?;
     Ok((samples, terms))

@@ -42,18 +42,21 @@ pub fn totals(mut totals: [u64; TOTALS], lines: &[&str]) -> [u64; TOTALS] {
     totals
 }
 
+/// The numbers under which a file is refused. Their totals stand in this order, behind those of the files cleaned and
+/// of those not opened, and before the sums.
+const REFUSED: [&str; 7] = ["7", "8", "9", "15", "16", "17", "18"];
+
 /// What a printed line adds, and to which of the totals.
 fn adds(line: &str) -> Vec<(usize, u64)> {
     let words: Vec<&str> = line.split_whitespace().collect();
     match words[..] {
         ["unopened"] => vec![(1, 1)],
-        ["refused", "7", _] => vec![(2, 1)],
-        ["refused", "8", _] => vec![(3, 1)],
-        ["refused", "9", _] => vec![(4, 1)],
-        ["refused", "11", _] => vec![(5, 1)],
+        ["refused", number, _] if REFUSED.contains(&number) => {
+            REFUSED.iter().enumerate().map(|(index, one)| (2 + index, (*one == number) as u64)).collect()
+        }
         [_, _, _, _, _] => {
             let counts = words.iter().map(|word| word.parse().unwrap());
-            [(0, 1)].into_iter().chain((6..TOTALS).zip(counts)).collect()
+            [(0, 1)].into_iter().chain((2 + REFUSED.len()..TOTALS).zip(counts)).collect()
         }
         _ => panic!("no file has the line {line:?}"),
     }

@@ -8,8 +8,39 @@ use crate::independent::limits::{
 };
 use crate::independent::{files, forms, recipes};
 
+/// A length far over the longest file.
+const MEGABYTE: usize = 1 << 20;
+
 /// The set {0}.
 const MIDDLE: u16 = 1 << REACH;
+
+/// The fields of a scan file's trailer: how far before the file's end they begin, and their bytes.
+const SAMPLE_DISTANCE: Field = (TRAILER, DISTANCE_BYTES);
+const TERM_DISTANCE: Field = (TRAILER - DISTANCE_BYTES, DISTANCE_BYTES);
+const COUNT: Field = (MARK.len() + COUNT_BYTES, COUNT_BYTES);
+const END_MARK: Field = (MARK.len(), MARK.len());
+type Field = (usize, usize);
+
+/// The bytes of a field.
+fn field(file: &mut [u8], (before_end, bytes): Field) -> &mut [u8] {
+    let start = file.len() - before_end;
+    &mut file[start..start + bytes]
+}
+
+/// Puts the low bytes of a number into a field.
+fn put(file: &mut [u8], which: Field, number: usize) {
+    let (_, bytes) = which;
+    field(file, which).copy_from_slice(&number.to_le_bytes()[..bytes]);
+}
+
+/// Cuts the file's start, or puts bytes before it, until it has that length. The sample distance follows.
+fn give_length(file: &mut Vec<u8>, length: usize) {
+    file.drain(..file.len().saturating_sub(length));
+    file.splice(0..0, vec![7; length - file.len()]);
+    if length >= TRAILER {
+        put(file, SAMPLE_DISTANCE, length);
+    }
+}
 
 /// SplitMix64: a counter whose every value is stirred.
 pub struct Random(u64);
@@ -286,33 +317,51 @@ impl Random {
 
     fn damage_file(&mut self, file: &mut Vec<u8>) {
         let length = file.len();
-        let in_trailer = length - TRAILER + self.below(TRAILER);
-        match self.below(10) {
+        match self.below(12) {
             0 => file.truncate(self.below(length)),
             1 => drop(file.drain(..self.between(1, length))),
             2 => file.extend(self.noise(&[1])),
             3 => drop(file.splice(0..0, vec![7; self.between(1, 4)])),
             4 => *file = self.noise(&[0, 1, TRAILER - 1, TRAILER, TRAILER + 1, TRAILER + 2, 40]),
-            5 => file[in_trailer] = file[in_trailer].wrapping_add(self.one_of(&[1, 2, 254, 255])),
-            6 => file[in_trailer] ^= 1 << self.below(BYTE_BITS),
-            7 => *file = self.file_at_its_limit(),
-            8 => {
-                // The trailer follows the longer file, so only an odd number of bytes is at fault.
-                file.splice(0..0, vec![7; self.between(1, 4)]);
-                let length = file.len() as u32;
-                let trailer = file.len() - TRAILER;
-                file.splice(trailer..trailer + DISTANCE_BYTES, length.to_le_bytes());
+            5 => *file = self.file_at_its_limit(),
+            6 => {
+                let shortest = [0, 1, TRAILER - 1, TRAILER, TRAILER + 1];
+                let longest = [LONGEST_FILE - 1, LONGEST_FILE, LONGEST_FILE + 1, MEGABYTE];
+                give_length(file, self.one_of(&[&shortest[..], &longest].concat()));
             }
-            _ => {
+            // An odd number of bytes is all that is at fault.
+            7 => give_length(file, length + self.between(1, 4)),
+            8 => {
                 // The term distance follows the number of terms, so the layout may still be sound.
                 let fitting = self.below(length / WORD_BYTES);
                 let terms = self.one_of(&[fitting, fitting, 32_768, u16::MAX as usize]);
-                let count = length - MARK.len() - COUNT_BYTES;
-                file[count - DISTANCE_BYTES..count]
-                    .copy_from_slice(&(file_bytes(0, terms) as u32).to_le_bytes());
-                file[count..count + COUNT_BYTES].copy_from_slice(&(terms as u16).to_le_bytes());
+                put(file, TERM_DISTANCE, file_bytes(0, terms));
+                put(file, COUNT, terms);
             }
+            9 => {
+                self.damage_field(file);
+                self.damage_field(file);
+            }
+            _ => self.damage_field(file),
         }
+    }
+
+    /// Damages one field of the trailer: by a little, in one bit, to a number near its largest or near what a smaller
+    /// type would make of it, or anyhow.
+    fn damage_field(&mut self, file: &mut [u8]) {
+        let which = self.one_of(&[SAMPLE_DISTANCE, TERM_DISTANCE, COUNT, END_MARK]);
+        let (_, bytes) = which;
+        let before = files::number(field(file, which));
+        let little = self.one_of(&[1, 2, 3, 4]);
+        let number = match self.below(6) {
+            0 => before + little,
+            1 => before.wrapping_sub(little),
+            2 => before ^ 1 << self.below(BYTE_BITS * bytes),
+            3 => little.wrapping_neg(),
+            4 => before + (self.one_of(&[1, 2, u16::MAX as usize]) << 16),
+            _ => self.bits() as usize,
+        };
+        put(file, which, number);
     }
 
     /// Bytes about the longest file, as samples or as terms.
@@ -325,7 +374,7 @@ impl Random {
 
     /// Bytes over the longest file; one time in two the longest file stands at their start.
     pub fn file_over_its_limit(&mut self) -> Vec<u8> {
-        let length = LONGEST_FILE + self.one_of(&[1, 2, 3, LONGEST_FILE]);
+        let length = LONGEST_FILE + self.one_of(&[1, 2, 3, LONGEST_FILE, MEGABYTE]);
         let mut file = self.noise(&[length]);
         if self.once_in(2) {
             let terms = forms::least_patterns(|pattern| pattern.count_ones() > REACH as u32);
@@ -393,7 +442,7 @@ impl Random {
         [b"n".to_vec(), (0..length).map(letter).collect()].concat()
     }
 
-    /// Eleven totals, small, or so large that they wrap.
+    /// A total: any, or so large that it wraps.
     pub fn total(&mut self) -> u64 {
         match self.below(4) {
             0 => u64::MAX - self.below(3) as u64,
