@@ -5,6 +5,7 @@ pub mod Filters
 pub mod Ranks
 pub mod Sheets
 pub mod Claims
+pub mod Layouts
 pub mod Files
 pub mod Counts
 pub mod Nights

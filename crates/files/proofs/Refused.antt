@@ -1,7 +1,7 @@
 -- What a file can be refused for: one of the four of its layout for its cause, or 7, 8 or 9 of what it holds. So each of the four is given
 -- exactly when its own condition holds and none before it, and none is given exactly when the file is laid out well. Over the family.
 -- Assumes nothing.
-use Prim.Native.Nat.{ℕ}
+use Prim.Native.Nat.{ℕ, _<_}
 use native.Mathlib.Omega.{arith}
 use mathlib.Core.Path.{_≡_, sym, _∙_}
 use mathlib.Core.Bool.{Bool, true, false, _||_}
@@ -16,12 +16,12 @@ use Rattle.refusals.specs.declared.Refusal.{Refusal}
 use Rattle.refusals.specs.declared.Checked.{Checked}
 use Rattle.refusals.specs.declared.Checked.the-variants.{Fine, Refused}
 use Rattle.refusals.specs.Refusals.{refusal, refuseIf, orElse}
-use Rattle.refusals.specs.Shared.{scanChecked}
+use Rattle.refusals.specs.Shared.{roomChecked, scanChecked}
 use Rattle.refusals.proofs.Checks.{refused-fine}
 use Rattle.forms.specs.Check.{termsChecked, formChecked}
 use Rattle.files.specs.declared.Family.{Family}
-use Rattle.files.specs.Layout.{samplesField, termsField, markField, sampleCount, fileTerms}
-use Rattle.files.specs.Files.{layoutChecked, fileChecked}
+use Rattle.files.specs.Layout.{samplesField, termsField, markField, termCount, sampleCount, fileTerms}
+use Rattle.files.specs.Files.{layoutChecked, fileChecked, slicesChecked, readChecked}
 use Rattle.files.specs.Causes.{Laid, Cause, by-length, by-mark, by-terms, by-samples, OfLayout}
 use Rattle.files.proofs.Layouts.{well-laid, laid-well}
 use Rattle.files.proofs.Causes.{cause-found, cause-refused, cause-numbers, fine-or-cause}
@@ -74,17 +74,35 @@ module _ (P : Refusal → Type 0) where
         caused _ (by-samples _ _ _ _) = samples
 
 module _ (family : Family) (f : List ℕ) where
+  -- a refusal under one of the four has its cause
+  abbrev Caused : Refusal → Type 0
+  Caused r = OfLayout r → Cause family f r
+
+  told : (c : Checked) (r : Refusal) → IfRefused Caused c → c ≡ Refused r → Caused r
+  told c r h e = rw e at h
+
+  other : {n p : ℕ} → n < 15 → Caused (refusal n p)
+  other low o = absurd (omega (arith, low, o .0))
+
+  file-caused : IfRefused Caused (fileChecked family f)
+  file-caused = refused-by-cause Caused family f (λ r cause o. cause) (other (omega arith)) (other (omega arith)) (other (omega arith))
+
   -- each of the four is given, at its place, exactly when its own condition holds and none before it
   pub given-exactly : (r : Refusal) → OfLayout r → (fileChecked family f ≡ Refused r) ↔ Cause family f r
-  given-exactly r of-layout = (λ e. told (fileChecked family f) e caused of-layout, cause-refused family f)
-    where
-      caused : IfRefused (λ q. OfLayout q → Cause family f q) (fileChecked family f)
-      caused =
-          refused-by-cause (λ q. OfLayout q → Cause family f q) family f (λ q cause o. cause) (λ o. absurd (omega (arith, o .0)))
-          (λ o. absurd (omega (arith, o .0))) (λ o. absurd (omega (arith, o .0)))
+  given-exactly r o = (λ e. told (fileChecked family f) r file-caused e o, cause-refused family f)
 
-      told : (c : Checked) → c ≡ Refused r → IfRefused (λ q. OfLayout q → Cause family f q) c → OfLayout r → Cause family f r
-      told c e h = rw e at h
+  -- by a read too, whatever is lent: 6 and 10 are none of them, and come later
+  pub read-exactly : (samples terms : ℕ) (r : Refusal) → OfLayout r → (readChecked family f samples terms ≡ Refused r) ↔ Cause family f r
+  unfolding readChecked slicesChecked roomChecked
+  read-exactly samples terms r o = (λ e. told (readChecked family f samples terms) r caused e o, λ cause. rw (cause-refused family f cause))
+    where
+      caused : IfRefused Caused (readChecked family f samples terms)
+      caused =
+          let m = termCount f in
+          let n = sampleCount family f in
+          or-refused Caused (fileChecked family f) _ file-caused
+          (or-refused Caused (roomChecked m terms) _ (if-refused Caused (ltb terms m) 6 m (other (omega arith)))
+          (if-refused Caused (ltb samples n) 10 n (other (omega arith))))
 
   -- a file is laid out well exactly when none of the four is given
   pub laid-exactly : Laid family f ↔ ((r : Refusal) → OfLayout r → fileChecked family f ≡ Refused r → ⊥)
