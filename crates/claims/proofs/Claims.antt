@@ -33,9 +33,10 @@ use Rattle.compiler.specs.Compile.{Compile}
 use Rattle.files.specs.declared.ReadAnswer.{ReadAnswer}
 use Rattle.files.specs.declared.ReadAnswer.the-variants as read
 use Rattle.files.specs.Files.{Read, Write}
+use Rattle.files.specs.Causes.{Bytes}
 use Rattle.files.proofs.Decided.{read-decided}
 use Rattle.files.proofs.RoundTrips.{written-reads-back, read-alike}
-use Rattle.claims.specs.Words.{Bytes, Samples, around, threeAt, Agree, FormWritten, passing}
+use Rattle.claims.specs.Words.{Samples, around, threeAt, Agree, FormWritten, passing}
 use Rattle.claims.proofs.Outcomes.{refused-exactly, refused-keeps, read-keeps, form-exactly, positive-exactly, table-again}
 use Rattle.claims.proofs.Chain.{compile-faithful, equal-terms-agree, compile-clean-run, written-accepted}
 use Rattle.claims.proofs.Filters.{clean-levels, clean-largest, median-preset}

@@ -29,8 +29,8 @@ use Rattle.files.specs.declared.ReadAnswer.{ReadAnswer}
 use Rattle.files.specs.declared.ReadAnswer.the-variants as read
 use Rattle.files.specs.Layout.{fileSamples, fileTerms}
 use Rattle.files.specs.Files.{Read}
+use Rattle.files.specs.Causes.{Bytes}
 use Rattle.files.proofs.Held.{refused}
-use Rattle.claims.specs.Words.{Bytes}
 
 refused-by : (c : Checked) (n : ℕ) (x : Refusal) → (answerOf c n ≡ answer.Refused x) ↔ (c ≡ checked.Refused x)
 refused-by checked.Fine n x = (λ e. let z : _≡_ {A = ℕ} 0 1 = cc in absurd (omega arith), λ e. refused-fine x (sym e))

@@ -18,10 +18,6 @@ use Rattle.files.specs.Files.{Read}
 use Rattle.totals.specs.declared.Outcome.{Outcome}
 use Rattle.lines.specs.Lines.{outcomeLine}
 
--- every element is a byte
-abbrev pub Bytes : List ℕ → Type 0
-Bytes f = (i : ℕ) → getD f i 0 < 256
-
 -- every sample is 0 to 65,535
 abbrev pub Samples : List ℕ → Type 0
 Samples s = (i : ℕ) → getD s i 0 ≤ top

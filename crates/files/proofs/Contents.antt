@@ -15,10 +15,10 @@ use Rattle.files.specs.Bytes.{twoBytes, fourBytes, inWords, wordAt, long
 use Rattle.files.specs.Layout.{countsFamily}
 use Rattle.files.specs.Layout.{samplesBack, termsBack, termCount, termsDistance, fileTerms}
 use Rattle.files.specs.Layout.{fileLength, sampleCount, trailer, fileOf, fileSamples, countsFile}
-use Rattle.files.specs.Causes.{Laid}
+use Rattle.files.specs.Causes.{Bytes, Laid}
 use Rattle.files.proofs.Layouts.{length-most, whole, first-term, terms-counted, samples-counted, samples-lie}
 use Rattle.files.proofs.Stores.{longBytes, length-in-words, length-file}
-use Rattle.files.proofs.Words.{Bytes, word-behind, long-behind, words-back, word-bytes, long-bytes, words-bytes}
+use Rattle.files.proofs.Words.{word-behind, long-behind, words-back, word-bytes, long-bytes, words-bytes}
 
 -- ---- the file of a form and of samples that take the family's bytes
 

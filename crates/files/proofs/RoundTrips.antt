@@ -17,11 +17,11 @@ use Rattle.files.specs.declared.ReadAnswer.{ReadAnswer}
 use Rattle.files.specs.declared.ReadAnswer.the-variants as read
 use Rattle.files.specs.Layout.{countsFamily, termCount, fileTerms, sampleCount, fileOf, fileSamples, countsFile}
 use Rattle.files.specs.Files.{layoutChecked, fileChecked, writeChecked, Read, Write}
+use Rattle.files.specs.Causes.{Bytes}
 use Rattle.files.proofs.Layouts.{counts-usable, well-laid, whole, samples-counted, terms-counted}
 use Rattle.files.proofs.Stores.{length-in-words}
 use Rattle.files.proofs.Accepts.{fine-file, file-fine, Readable, Writable, read-fine, fine-write, write-fine}
 use Rattle.files.proofs.Held.{held}
-use Rattle.files.proofs.Words.{Bytes}
 use Rattle.files.proofs.Contents.{file-laid, count-of, terms-of, file-of-contents}
 use Rattle.files.proofs.Contents.{length-counts, counts-samples, counts-terms, counts-of-contents, only-file}
 

@@ -13,11 +13,8 @@ use Rattle.theory.proofs.Lists.{tab-suc, getD-tab}
 use Rattle.theory.proofs.Slices.{parts}
 use Rattle.limits.specs.Limits.{wordBytes}
 use Rattle.files.specs.Bytes.{twoBytes, fourBytes, inWords, wordAt, longAt, wordsFrom}
+use Rattle.files.specs.Causes.{Bytes}
 use Rattle.files.proofs.Layouts.{length-words}
-
--- every element is a byte
-abbrev pub Bytes : List ℕ → Type 0
-Bytes f = (k : ℕ) → getD f k 0 < 256
 
 -- ---- behind a front, places move by its length
 

@@ -1,9 +1,9 @@
--- The words of the layout's laws, which no contract cites: a file that is laid out well, and why one is not.
-use Prim.Native.Nat.{ℕ, _-_, _%_, _≤_}
+-- The words of the scan file's laws, which no contract cites: a file of bytes, one that is laid out well, and why one is not.
+use Prim.Native.Nat.{ℕ, _-_, _%_, _≤_, _<_}
 use mathlib.Core.Path.{_≡_}
 use mathlib.Core.Bool.{true, false}
 use mathlib.Core.List.{List}
-use lib.ListN.{length}
+use lib.ListN.{length, getD}
 use Rattle.limits.specs.Limits.{trailerBytes, mostTerms}
 use Rattle.refusals.specs.Refusals.{refusal}
 use Rattle.refusals.specs.declared.Refusal.{Refusal}
@@ -11,6 +11,10 @@ use Rattle.files.specs.declared.Family.{Family}
 use Rattle.files.specs.Bytes.{wordAt}
 use Rattle.files.specs.Layout.{samplesField, termsField, markField, samplesBack, termsBack, termCount, termsDistance, pointsAtTerms}
 use Rattle.files.specs.Layout.{fileLength, sized, marked, pointsAtSamples}
+
+-- every element is a byte
+abbrev pub Bytes : List ℕ → Type 0
+Bytes f = (i : ℕ) → getD f i 0 < 256
 
 -- laid out well: document 01's conditions, as facts
 pub record Laid (family : Family) (f : List ℕ) : Type 0 where

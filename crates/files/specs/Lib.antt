@@ -1,4 +1,4 @@
--- What the contracts of the scan file cite, what private contracts alone cite, and the words of the layout's laws.
+-- What the contracts of the scan file cite, what private contracts alone cite, and the words of the scan file's laws.
 pub mod Bytes
 pub mod Layout
 pub mod Files

@@ -11,7 +11,7 @@ use Rattle.refusals.specs.declared.Refusal.{Refusal}
 use Rattle.files.specs.Bytes.{longAt}
 use Rattle.files.specs.Layout.{countsFamily, samplesField, countField, samplesBack, termsBack, termCount, fileTerms, sampleCount}
 use Rattle.files.specs.Files.{fileChecked}
-use Rattle.files.proofs.Words.{Bytes}
+use Rattle.files.specs.Causes.{Bytes}
 use Rattle.files.proofs.Layouts.{terms-counted}
 use Rattle.files.proofs.Refused.{IfRefused, file-refused}
 use Rattle.reports.specs.declared.Counts.{Counts}

@@ -12,7 +12,7 @@ use Rattle.refusals.specs.declared.Checked.{Checked}
 use Rattle.refusals.specs.declared.Answer.the-variants.{Done}
 use Rattle.refusals.specs.Promise.{Gives}
 use Rattle.refusals.proofs.Checks.{done-fine}
-use Rattle.files.proofs.Words.{Bytes}
+use Rattle.files.specs.Causes.{Bytes}
 use Rattle.reports.specs.declared.CountAnswer.the-variants.{Counted, Refused}
 use Rattle.reports.specs.Counts.{fileCounted}
 use Rattle.totals.specs.declared.Outcome.{Outcome}

@@ -16,7 +16,7 @@ use Rattle.refusals.specs.declared.Checked.the-variants.{Fine}
 use Rattle.files.specs.Bytes.{wordAt, wordsFrom}
 use Rattle.files.specs.Layout.{countsFamily, samplesBack, sampleCount, fileSamples, fileTerms}
 use Rattle.files.specs.Files.{fileChecked}
-use Rattle.files.proofs.Words.{Bytes}
+use Rattle.files.specs.Causes.{Bytes}
 use Rattle.files.proofs.Layouts.{samples-counted}
 use Rattle.files.proofs.Accepts.{fine-file}
 use Rattle.reports.specs.declared.Counts.{Counts}

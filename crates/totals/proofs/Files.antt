@@ -14,7 +14,7 @@ use Rattle.refusals.specs.declared.Checked.the-variants as checked
 use Rattle.refusals.specs.Refusals.{answered}
 use Rattle.files.specs.Layout.{countsFamily}
 use Rattle.files.specs.Files.{fileChecked}
-use Rattle.files.proofs.Words.{Bytes}
+use Rattle.files.specs.Causes.{Bytes}
 use Rattle.files.proofs.Refused.{IfRefused, file-refused}
 use Rattle.reports.specs.declared.Counts.{Counts}
 use Rattle.reports.specs.declared.CountAnswer.{CountAnswer}

@@ -1,7 +1,7 @@
 -- The words of the totals' laws that no contract cites: what becomes of a file, and the running totals.
-use Prim.Native.Nat.{ℕ, _+_, _<_}
+use Prim.Native.Nat.{ℕ, _+_}
 use mathlib.Core.List.{List, List·Memᴰ, foldl}
-use lib.ListN.{getD}
+use Rattle.files.specs.Causes.{Bytes}
 use Rattle.reports.specs.declared.CountAnswer.{CountAnswer}
 use Rattle.reports.specs.Counts.{Count}
 use Rattle.totals.specs.declared.Outcome.{Outcome}
@@ -12,7 +12,7 @@ use Rattle.totals.specs.Totals.{nothing, added}
 -- what can become of a file: it is not opened, or its bytes are counted
 pub data OfFile : Outcome → Type 0 where
   not-opened : OfFile Unopened
-  opened : (f : List ℕ) → ((i : ℕ) → getD f i 0 < 256) → (a : CountAnswer) → Count f a → OfFile (Opened a)
+  opened : (f : List ℕ) → Bytes f → (a : CountAnswer) → Count f a → OfFile (Opened a)
 
 -- every outcome is one of a file
 abbrev pub OfFiles : List Outcome → Type 0

@@ -1,21 +1,18 @@
 -- `night::outcome_of_read` meets its contract: of a file that is too long the length decides what it is refused for, so the file may
 -- as well be zeros. Assumes nothing.
 use borrow.Author.Needs.{needs}
-use Prim.Native.Nat.{ℕ, zero, suc, _<_}
+use Prim.Native.Nat.{ℕ, zero, suc}
 use native.Mathlib.Omega.{arith}
 use mathlib.Core.Path.{_≡_, sym, ap, _∙_}
 use mathlib.Core.List.{List, [], _∷_}
-use lib.ListN.{length, getD, take, replicate, length-replicate}
+use lib.ListN.{length, take, replicate, length-replicate}
+use Rattle.files.specs.Causes.{Bytes}
 use Rattle.reports.specs.Counts.{fileCounted}
 use Rattle.reports.proofs.Lengths.{length-counted}
 use Rattle.totals.specs.declared.Outcome.the-variants.{Opened}
 use Rattle.totals.specs.Nights.{opened}
 use Rattle.night.proofs.outcome_of_read.Statement.{statement}
 use Rattle.night.proofs.outcome_of_read.Tie as tie
-
--- a file's elements are bytes
-abbrev Bytes : List ℕ → Type 0
-Bytes f = (i : ℕ) → getD f i 0 < 256
 
 zeros : (n : ℕ) → Bytes (replicate n 0)
 zeros zero i = omega arith
