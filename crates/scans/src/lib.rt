@@ -1,8 +1,9 @@
 // Scans: a form run on a scan, the residue that a run leaves, and the question whether a scan is a root.
 //
 // A form sees the samples around each sample, and two values beyond the scan, one left and one right of it: what the ends rule has
-// become. The filter is the largest, over the terms, of the smallest value that the term reaches; the contracts say document 01's
-// count of levels. No public function has a `requires`, and nothing is assumed.
+// become. A run carries what it sees from sample to sample, so that each sample is loaded from the scan once. The filter is the largest,
+// over the terms, of the smallest value that the term reaches; the contracts say document 01's count of levels. No public function has a
+// `requires`, and nothing is assumed.
 use limits::MOST_SAMPLES;
 use limits::REACH;
 use limits::WIDTH;
@@ -11,14 +12,14 @@ use refusals::Checked;
 use refusals::Refusal;
 use windows::Beyond;
 ghost use mathlib.Core.Path.{_≡_};
-ghost use Prim.Native.Nat.{_<_, _≤_};
+ghost use Prim.Native.Nat.{_+_, _<_};
 ghost use lib.ListN.{length, getD};
-ghost use lib.IntN.{pos, _-ℤ_};
-ghost use Rattle.limits.specs.Limits.{width};
-ghost use Rattle.theory.specs.Lists.{tab};
-ghost use Rattle.theory.specs.Signals.{window, held};
+ghost use lib.IntN.{pos, negsuc, _-ℤ_};
+ghost use Rattle.limits.specs.Limits.{reach};
+ghost use Rattle.theory.specs.Signals.{window, between};
+ghost use Rattle.windows.specs.Columns.{positionIn};
 ghost use Rattle.scans.specs.Run.{rootChecked, runChecked, rootFound, Clean, Residue, Root};
-ghost use Rattle.scans.specs.Private.{view, valueAround, valuesAround, restsAround};
+ghost use Rattle.scans.specs.Private.{carried, movedOn, valueAround, valuesAround, restsAround};
 
 // Whether a scan is a root of a form.
 pub enum RootAnswer {
@@ -30,70 +31,57 @@ pub enum RootAnswer {
     Refused(Refusal),
 }
 
-// ---- what a form sees
+// ---- the window that a run carries
 
-// What the window sees at position i around x: a sample, or what stands beyond the scan.
-fn near_at(scan: &[u16], left: u16, right: u16, x: usize, i: usize) -> u16
-    requires { ⌜ (x < length (now scan)) × (i < width) ⌝ }
-    ensures { λ r. ⌜ r ≡ view left right (now (scan .entry)) x i ⌝ }
+// Sample k, or what stands right of the scan. Nothing else reads the scan while a window is carried along it.
+fn load(scan: &[u16], right: u16, k: usize) -> u16
+    ensures { λ r. ⌜ r ≡ getD (now (scan .entry)) k right ⌝ }
 {
-    let at = x + windows::column(i);
-    if at < REACH {
-        return left;
-    }
-    let k = at - REACH;
     if k < scan.len() { scan[k] } else { right }
 }
 
-// What the window sees around x, wherever x is.
-fn around(scan: &[u16], left: u16, right: u16, x: usize) -> [u16; WIDTH]
-    requires { ⌜ x < length (now scan) ⌝ }
-    ensures { λ r. ⌜ r ≡ tab width (view left right (now (scan .entry)) x) ⌝ }
+// What the window sees one sample further on: what stays in sight stands a column further left, and in the last column stands what
+// arrives.
+fn take_in(near: [u16; WIDTH], arriving: u16) -> [u16; WIDTH]
+    ensures { λ r. ⌜ r ≡ movedOn window near arriving ⌝ }
 {
-    let mut near = [0u16; WIDTH];
+    let mut seen = near;
     let mut i = 0;
     while i < WIDTH {
-        near[i] = near_at(scan, left, right, x, i);
+        let from = windows::position(windows::column(i) + 1);
+        seen[i] = if from < WIDTH { near[from] } else { arriving };
         i += 1;
+    }
+    seen
+}
+
+// What the window sees just before the first sample: far to the left it sees what stands there alone, and then the first samples arrive.
+fn enter(scan: &[u16], left: u16, right: u16) -> [u16; WIDTH]
+    ensures { λ r. ⌜ r ≡ carried window (between left right (now (scan .entry))) (negsuc 0) ⌝ }
+{
+    let mut near = [left; WIDTH];
+    let mut k = 0;
+    while k < REACH {
+        let next = take_in(near, load(scan, right, k));
+        near = next;
+        k += 1;
     }
     near
 }
 
-// What the window sees in a part of the scan that has a sample to each of its columns.
-fn inside(part: &[u16]) -> [u16; WIDTH]
-    requires { ⌜ length (now part) ≡ width ⌝ }
-    ensures { λ r. ⌜ r ≡ tab width (λ i. getD (now (part .entry)) (window .column i) 0) ⌝ }
+// What the window sees around x, from what it saw around the sample before.
+fn move_on(near: [u16; WIDTH], scan: &[u16], right: u16, x: usize) -> [u16; WIDTH]
+    requires { ⌜ x < length (now scan) ⌝ }
+    ensures { λ r. ⌜ r ≡ movedOn window near (getD (now (scan .entry)) (x + reach) right) ⌝ }
 {
-    let mut near = [0u16; WIDTH];
-    let mut i = 0;
-    while i < WIDTH {
-        near[i] = part[windows::column(i)];
-        i += 1;
-    }
-    near
+    take_in(near, load(scan, right, x + REACH))
 }
 
-// What the window sees around x. Away from the ends it is read where it stands.
-fn look(scan: &[u16], left: u16, right: u16, x: usize) -> [u16; WIDTH]
-    requires { ⌜ x < length (now scan) ⌝ }
-    ensures { λ r. ⌜ r ≡ tab width (view left right (now (scan .entry)) x) ⌝ }
+// The sample itself: it stands in the middle.
+fn middle(near: [u16; WIDTH]) -> u16
+    ensures { λ r. ⌜ r ≡ getD near (positionIn reach) 0 ⌝ }
 {
-    if REACH <= x {
-        if x + REACH < scan.len() {
-            let from = x - REACH;
-            let to = from + WIDTH;
-            return inside(&scan[from..to]);
-        }
-    }
-    around(scan, left, right, x)
-}
-
-// What the form gives around x.
-fn filter_at(terms: &[u16], scan: &[u16], left: u16, right: u16, x: usize) -> u16
-    requires { ⌜ x < length (now scan) ⌝ }
-    ensures { λ r. ⌜ r ≡ valueAround left right (now (terms .entry)) (now (scan .entry)) x ⌝ }
-{
-    values::value(terms, look(scan, left, right, x))
+    near[windows::position(REACH)]
 }
 
 // ---- over the whole scan
@@ -104,9 +92,12 @@ fn fill(terms: &[u16], scan: &[u16], ends: Beyond, out: &mut [u16]) -> usize
     ensures { λ r. ⌜ (r ≡ length (now (scan .entry)))
         × (now (out .exit) ≡ valuesAround (ends .left) (ends .right) (now (terms .entry)) (now (scan .entry))) ⌝ }
 {
+    let mut near = enter(scan, ends.left, ends.right);
     let mut x = 0;
     while x < out.len() {
-        out[x] = filter_at(terms, scan, ends.left, ends.right, x);
+        let here = move_on(near, scan, ends.right, x);
+        out[x] = values::value(terms, here);
+        near = here;
         x += 1;
     }
     x
@@ -125,9 +116,12 @@ fn fill_residue(terms: &[u16], scan: &[u16], ends: Beyond, out: &mut [i32]) -> u
     ensures { λ r. ⌜ (r ≡ length (now (scan .entry)))
         × (now (out .exit) ≡ restsAround (ends .left) (ends .right) (now (terms .entry)) (now (scan .entry))) ⌝ }
 {
+    let mut near = enter(scan, ends.left, ends.right);
     let mut x = 0;
     while x < scan.len() {
-        out[x] = difference(scan[x], filter_at(terms, scan, ends.left, ends.right, x));
+        let here = move_on(near, scan, ends.right, x);
+        out[x] = difference(middle(here), values::value(terms, here));
+        near = here;
         x += 1;
     }
     x
@@ -137,11 +131,14 @@ fn fill_residue(terms: &[u16], scan: &[u16], ends: Beyond, out: &mut [i32]) -> u
 fn find_difference(terms: &[u16], scan: &[u16], ends: Beyond) -> RootAnswer
     ensures { λ r. ⌜ r ≡ rootFound (valueAround (ends .left) (ends .right) (now (terms .entry)) (now (scan .entry))) (now (scan .entry)) ⌝ }
 {
+    let mut near = enter(scan, ends.left, ends.right);
     let mut x = 0;
     while x < scan.len() {
-        if scan[x] != filter_at(terms, scan, ends.left, ends.right, x) {
+        let here = move_on(near, scan, ends.right, x);
+        if middle(here) != values::value(terms, here) {
             return RootAnswer::Differs(x);
         }
+        near = here;
         x += 1;
     }
     RootAnswer::Root
