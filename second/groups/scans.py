@@ -159,6 +159,26 @@ def near_roots(chance):
         yield call("root", terms, scan[:at] + [chance.between(0, TOP)] + scan[at + 1:])
 
 
+# ---- scans about as long as the window
+
+ABOUT_THE_WIDTH = range(1, len(OFFSETS) + 3)
+
+
+def short_scans():
+    """Each offset on scans of distinct samples, and a spike at each place: the first sample, the last and those near them come in sight
+    and go out of it within a few steps."""
+    for size in ABOUT_THE_WIDTH:
+        distinct = [100 + 37 * x % 53 for x in range(size)]
+        for d in OFFSETS:
+            yield call("clean", [number_of([d])], distinct, size)
+        yield from all_three(SINGLE_OFFSETS, distinct)
+        yield from all_three([LARGEST_SET], distinct)
+        for at in range(size):
+            spiked = [5] * at + [9] + [5] * (size - at - 1)
+            yield call("residue", MEDIAN_3, spiked, size)
+            yield call("root", MEDIAN_3, spiked)
+
+
 # ---- long scans
 
 def sawtooth(size, period):
@@ -197,3 +217,4 @@ def calls(chance):
     yield from random(chance)
     yield from near_roots(chance)
     yield from long_scans(chance)
+    yield from short_scans()
