@@ -22,8 +22,10 @@ static uint16_t scan[SAMPLES], ours[SAMPLES], plains[SAMPLES];
 
 /* ---- timing */
 
-/* What is timed: a filter by its form or its recipe, or a file. */
+/* What is timed: a filter by its form or its recipe, or a file. A form runs on so many of the scan's first samples, on all
+   where that is 0. */
 typedef struct {
+    size_t samples;
     uint16_t terms[SF_MOST_TERMS];
     size_t m;
     uint8_t recipe[SF_LONGEST_RECIPE];
@@ -59,7 +61,13 @@ static void time_best(call *one, call *other, job *j, double *best_one, double *
 
 static size_t value, terms_read;
 
-static void clean(job *j) { demand(sf_clean(j->terms, j->m, scan, SAMPLES, ours, SAMPLES, &value)); }
+static size_t samples_of(const job *j) { return j->samples ? j->samples : SAMPLES; }
+
+static void clean(job *j) {
+    size_t n = samples_of(j);
+    demand(sf_clean(j->terms, j->m, scan, n, ours, n, &value));
+}
+
 static void count(job *j) { uint64_t counts[SF_COUNTS]; demand(sf_count(j->file, j->file_bytes, counts, &value)); }
 
 static void run(job *j) {
@@ -138,8 +146,8 @@ static void preset(job *j) {
         demand(sf_preset(number, j->terms, SF_MOST_TERMS, &value));
 }
 
-static void clean_plainly(job *j) { plain_clean(j->terms, j->m, scan, SAMPLES, plains); }
-static void clean_by_bits(job *j) { plain_clean_by_bits(j->terms, j->m, scan, SAMPLES, plains); }
+static void clean_plainly(job *j) { plain_clean(j->terms, j->m, scan, samples_of(j), plains); }
+static void clean_by_bits(job *j) { plain_clean_by_bits(j->terms, j->m, scan, samples_of(j), plains); }
 static void run_plainly(job *j) { plain_run_recipe(j->recipe, j->steps, scan, SAMPLES, plains); }
 
 /* ---- jobs */
@@ -172,11 +180,22 @@ static void row_beside(const char *name, call *one, call *plain, job j) {
     memset(plains, 2, sizeof plains);
     one(&j);
     plain(&j);
-    if (memcmp(ours, plains, sizeof ours) != 0)
+    if (memcmp(ours, plains, samples_of(&j) * sizeof *ours) != 0)
         refuse_to_go_on(name);
     time_best(one, plain, &j, &best, &best_plain);
-    printf("time\t%s\tns per sample\t%.3f\t%.3f\n", name, best / SAMPLES, best_plain / SAMPLES);
+    printf("time\t%s\tns per sample\t%.3f\t%.3f\n", name, best / (double)samples_of(&j), best_plain / (double)samples_of(&j));
     fflush(stdout);
+}
+
+/* The form on short scans, where the ends and the call itself weigh most. */
+static void row_by_length(const char *form, job j) {
+    const size_t lengths[] = {1, 9, 100};
+    char name[80];
+    for (size_t i = 0; i < sizeof lengths / sizeof *lengths; i++) {
+        j.samples = lengths[i];
+        snprintf(name, sizeof name, "%s, on %zu sample%s", form, j.samples, j.samples == 1 ? "" : "s");
+        row_beside(name, clean, clean_plainly, j);
+    }
 }
 
 static void row_alone(const char *name, call *one, job j) {
@@ -266,15 +285,19 @@ static job recipe_in(const char *hex) {
 
 /* ---- the rows */
 
+#define FORMS 3
+
 static void forms(void) {
-    const char *names[] = {"form 24 40 48", "form of the five-point median, 10 terms", "form of rank 5 over 511, 126 terms"};
-    job jobs[] = {compiled(after_signal(SF_MEDIAN, 0, 56)), compiled(after_signal(SF_MEDIAN, 0, 124)),
-                  compiled(after_signal(SF_RANK, 5, EVERY_OFFSET))};
-    double by_bits[3];
-    for (int i = 0; i < 3; i++) {
+    const char *names[FORMS] = {"form 24 40 48", "form of the five-point median, 10 terms", "form of rank 5 over 511, 126 terms"};
+    job jobs[FORMS] = {compiled(after_signal(SF_MEDIAN, 0, 56)), compiled(after_signal(SF_MEDIAN, 0, 124)),
+                       compiled(after_signal(SF_RANK, 5, EVERY_OFFSET))};
+    double by_bits[FORMS];
+    for (int i = 0; i < FORMS; i++) {
         row_beside(names[i], clean, clean_plainly, jobs[i]);
         time_best(clean_by_bits, NULL, &jobs[i], &by_bits[i], NULL);
     }
+    for (int i = 0; i < FORMS; i++)
+        row_by_length(names[i], jobs[i]);
     printf("note\tThe forms in plain C with a test for each position of each term: %.3f, %.3f and %.3f ns per sample.\n",
            by_bits[0] / SAMPLES, by_bits[1] / SAMPLES, by_bits[2] / SAMPLES);
 }
