@@ -25,7 +25,7 @@
 #include <stddef.h>
 #include <stdint.h>
 
-#define SF_VERSION "0.4.0"
+#define SF_VERSION "0.4.1"
 
 #define SF_REACH 4                       /* an offset is -SF_REACH to SF_REACH */
 #define SF_WIDTH (2 * SF_REACH + 1)      /* the number of offsets */
