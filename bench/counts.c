@@ -13,7 +13,7 @@ struct qemu_plugin_tb;
 struct qemu_plugin_insn;
 
 #define NO_REGISTERS 0
-#define READS_AND_WRITES 3
+#define READS_AND_WRITES 3 /* told apart below: asked for reads alone, qemu 7.2 was seen to tell of writes */
 
 void qemu_plugin_register_vcpu_tb_trans_cb(plugin id, void (*translated)(plugin id, struct qemu_plugin_tb *block));
 void qemu_plugin_register_vcpu_tb_exec_cb(struct qemu_plugin_tb *block, void (*executed)(unsigned processor, void *data),

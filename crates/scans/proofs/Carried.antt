@@ -40,10 +40,12 @@ module _ (W : Window) (fair : Fair W) {A : Type 0} (g : ℤ → A) where
 
       go : (i : ℕ) → i < wide W → (W .column i + 1 < wide W) ⊎ (wide W ≤ W .column i + 1)
           → getD (tab (wide W) (seen W g x)) (found (W .column i + 1)) arriving ≡ seen W g (x +ℤ pos 1) i
+      -- what stays in sight
       go i b (inl h) =
           let k = W .column i + 1 in
           rw (position-found W fair k h, getD-tab arriving (wide W) (seen W g x) (fair .position k) (fair .position-lt k h))
           (ap (λ (c : ℕ). g (x +ℤ subℕ c (W .far))) (fair .column-position k h) ∙ sym (seen-next x i))
+      -- what comes in sight
       go i b (inr h) =
           let k = W .column i + 1 in
           let last : k ≡ wide W = omega (arith, fair .column-lt i b) in
