@@ -1,6 +1,9 @@
 // Leaves: what several crates ask of sets, bytes and counts, each once.
 //
 // No function has a `requires`, and nothing is assumed. Each contract is an equation for the result: it allows one.
+
+#![tactic(auto)]
+
 ghost use Rattle.std.specs.Prelude.{◌≡◌, false, ◌+◌, ◌*◌, ◌≤◌, get_or};
 ghost use Rattle.limits.specs.Limits.{width, byte_bits};
 ghost use Rattle.theory.specs.Lists.{bit as bit_of};

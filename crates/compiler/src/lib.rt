@@ -3,6 +3,9 @@
 // It runs the recipe on scans that show the patterns, as many samples to a pattern as the window has columns. In the middle of a
 // pattern the recipe sees that pattern and nothing else, so what it gives there is its truth value. The patterns come in batches,
 // so that neither the scan nor the stack grows with their number. No public function has a `requires`, and nothing is assumed.
+
+#![tactic(auto)]
+
 ghost use Rattle.std.specs.Prelude.{◌≡◌, ◌+◌, ◌*◌, ◌%◌, ◌<◌, ◌≤◌, min, length};
 ghost use Rattle.limits.specs.Limits.{width, patterns, byte_bits, table_bytes};
 ghost use Rattle.theory.specs.Lists.{tab};

@@ -4,6 +4,9 @@
 // A slice is a pointer and a length; where the length is 0 the pointer may be null. The result is 0, or the
 // refusal's number; `*value` is what the call returns, or the refusal's place. On refusal nothing else is written. No function has a
 // `requires`, and nothing is assumed.
+
+#![tactic(auto)]
+
 ghost use Rattle.std.specs.Prelude.{◌≡◌, [], ◌∷◌, length};
 ghost use Rattle.limits.specs.Limits.{width, line_bytes, totals_bytes};
 ghost use Rattle.theory.specs.Lists.{first};

@@ -2,6 +2,9 @@
 //
 // The layout goes by its family: how many bytes a sample takes, the mark, and the most samples. Today there is one family, that of
 // counts. No public function has a `requires`, and nothing is assumed.
+
+#![tactic(auto)]
+
 ghost use Rattle.std.specs.Prelude.{◌≡◌, ◌++◌, ◌+◌, ◌-◌, ◌*◌, ◌^◌, ◌<◌, ◌≤◌, min, length, drop};
 ghost use Rattle.std.proofs.lemmas.List.Edits.{sets};
 ghost use Rattle.limits.specs.Limits.{word_bytes, width, most_samples, most_terms, trailer_bytes};
@@ -19,14 +22,14 @@ use limits::{MOST_SAMPLES, MOST_TERMS, PATTERNS, TRAILER, WIDTH, WORD_BYTES};
 use refusals::{Answer, Checked, Refusal};
 
 // What a read answers: how many samples and terms the file has, or why it says no.
-#[derive(Drop)]
+#[derive(Clone, Copy)]
 pub enum ReadAnswer {
     Read { samples: usize, terms: usize },
     Refused(Refusal),
 }
 
 // A family of scan files: the bytes that a sample takes, the word that ends a file, and the most samples of a scan.
-#[derive(Drop)]
+#[derive(Clone, Copy)]
 pub struct Family {
     pub bytes: usize,
     pub mark: u16,

@@ -1,6 +1,9 @@
 // Forms: the check that a list of terms is one, over a window of any width.
 //
 // No public function has a `requires`, and nothing is assumed.
+
+#![tactic(auto)]
+
 ghost use Rattle.std.specs.Prelude.{◌≡◌, ◌<◌, ◌^◌, leb, length};
 ghost use Rattle.theory.specs.Forms.{contains_earlier, is_bad};
 ghost use Rattle.forms.specs.Check.{terms_checked, form_checked};

@@ -1,6 +1,9 @@
 // The lines of the report and of the night sheet: fields of digits and words, written to a slice that the caller lends.
 //
 // No public function has a `requires`, and nothing is assumed.
+
+#![tactic(auto)]
+
 ghost use Rattle.std.specs.Prelude.{◌≡◌, [], ◌∷◌, ◌++◌, map, ◌+◌, ◌*◌, ◌≤◌, ◌<◌, length};
 ghost use Rattle.limits.specs.Limits.{line_bytes, totals_bytes};
 ghost use Rattle.totals.specs.declared.Outcome.TheVariants.{Opened};

@@ -2,6 +2,9 @@
 //
 // A judge is three numbers, however long the list is. Its verdict is that of the whole text, wherever the text is cut into pieces
 // (proofs/Cuts.antt). No public function has a `requires`, and nothing is assumed.
+
+#![tactic(auto)]
+
 ghost use Rattle.std.specs.Prelude.{◌≡◌, ◌≤◌};
 ghost use Rattle.limits.specs.Limits.{most_names};
 ghost use Rattle.lists.specs.Names.{is_line_end, is_bad_length, CheckList, line_end};
@@ -13,7 +16,7 @@ use refusals::{Answer, Checked, Refusal};
 const LINE_FEED: u8 = b'\n';
 
 // What is known of a list so far.
-#[derive(Drop)]
+#[derive(Clone, Copy)]
 pub struct Judge {
     // How many lines have ended.
     pub lines: usize,

@@ -1,6 +1,9 @@
 // The twenty presets: the filters of window three, each as a form.
 //
 // No public function has a `requires`, and nothing is assumed.
+
+#![tactic(auto)]
+
 ghost use Rattle.std.specs.Prelude.{◌≡◌, cond, ◌<◌, get_or};
 ghost use Rattle.limits.specs.Limits.{presets, table_bytes};
 ghost use Rattle.theory.specs.Tables.{table_of};

@@ -1,6 +1,9 @@
 // Recipes: the steps decoded from their bytes, and whether a recipe is accepted.
 //
 // No public function has a `requires`, and nothing is assumed.
+
+#![tactic(auto)]
+
 ghost use Rattle.std.specs.Prelude.{◌≡◌, ◌-ℤ◌, get_or};
 ghost use Rattle.std.specs.Int.Signed.{le_z};
 ghost use Rattle.theory.specs.Orders.{smaller as smaller_of, larger as larger_of};
@@ -18,7 +21,7 @@ use refusals::{Checked, Refusal};
 const LONGEST_RECIPE: usize = STEP_BYTES * MOST_STEPS;
 
 // A step of document 01's table, with its set B (and its rank k).
-#[derive(Drop)]
+#[derive(Clone, Copy)]
 pub enum Step {
     Signal,
     Erode(u16),
@@ -32,14 +35,14 @@ pub enum Step {
 }
 
 // What a step's four bytes are: a step, or refusal 2 or 3 with its place.
-#[derive(Drop)]
+#[derive(Clone, Copy)]
 pub enum Decoded {
     Good(Step),
     Bad(Refusal),
 }
 
 // The offsets that a signal can depend on, from lo to hi.
-#[derive(Drop)]
+#[derive(Clone, Copy)]
 struct Reach {
     lo: i32,
     hi: i32,

@@ -2,12 +2,15 @@
 //
 // A refusal is what document 01 says it is: a number and a place. The table of numbers stands here once, a constant to a row, and
 // each check that several calls share. No function has a `requires`, and nothing is assumed.
+
+#![tactic(auto)]
+
 ghost use Rattle.std.specs.Prelude.{◌≡◌};
 ghost use Rattle.refusals.specs.Refusals.{or_else, refuse_if, answer_of};
 ghost use Rattle.refusals.specs.Shared.{room_checked, scan_checked, lent_checked};
 
 // A refusal: its number in document 01's table, and its place.
-#[derive(Drop)]
+#[derive(Clone, Copy)]
 pub struct Refusal {
     pub number: u8,
     pub place: usize,
@@ -27,7 +30,7 @@ pub const SIGNALS_HELD: u8 = 4;
 pub const REACH: u8 = 5;
 
 // What a check finds.
-#[derive(Drop)]
+#[derive(Clone, Copy)]
 pub enum Checked {
     Fine,
     Refused(Refusal),
@@ -43,7 +46,7 @@ pub const BAD_TERM: u8 = 7;
 pub const TERM_COUNT: u8 = 8;
 
 // What a call answers: the number of terms, samples or bytes that it gives, or why it says no.
-#[derive(Drop)]
+#[derive(Clone, Copy)]
 pub enum Answer {
     Done(usize),
     Refused(Refusal),

@@ -1,6 +1,9 @@
 // The report's counts: what a form changes of a scan, counted from a scan file.
 //
 // No public function has a `requires`, and nothing is assumed.
+
+#![tactic(auto)]
+
 ghost use Rattle.std.specs.Prelude.{◌≡◌, ◌&&◌, not, ◌-◌, ◌≤◌, eqb, length, get_or, pos, ◌-ℤ◌};
 ghost use Rattle.limits.specs.Limits.{most_samples, most_terms, top};
 ghost use Rattle.theory.specs.Signals.{held, residue_at};
@@ -15,7 +18,7 @@ use limits::{MOST_SAMPLES, MOST_TERMS};
 use refusals::Refusal;
 
 // What the report prints of a file.
-#[derive(Drop)]
+#[derive(Clone, Copy)]
 pub struct Counts {
     // How many samples the scan has.
     pub samples: u64,
@@ -30,7 +33,7 @@ pub struct Counts {
 }
 
 // What a count answers: the five numbers, or why it says no.
-#[derive(Drop)]
+#[derive(Clone, Copy)]
 pub enum CountAnswer {
     Counted(Counts),
     Refused(Refusal),

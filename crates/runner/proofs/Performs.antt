@@ -8,7 +8,7 @@ use mathlib.Core.Option.{none, some}
 use Prim.Native.Nat.{ℕ, ◌+◌, ◌-◌, ◌*◌, ◌/◌, ◌≤◌, ◌<◌}
 use native.Mathlib.Omega.{arith}
 use lib.Dec.{ltb}
-use lib.IntN.{ℤ, sub_ℕ, ◌+ℤ◌}
+use lib.IntN.{ℤ, sub_ℕ}
 use lib.ListN.{length, take, length-map}
 use borrow.Author.Tests.{ltb-true, lt-ltb, le-leb}
 use Rattle.limits.specs.Limits.{reach, step_bytes, most_signals}
@@ -26,7 +26,6 @@ use Rattle.recipes.specs.declared.Step.TheVariants.{Signal, Erode, Dilate, Open,
 use Rattle.recipes.specs.declared.Decoded.TheVariants.{Good, Bad}
 use Rattle.recipes.specs.Steps.{step_at}
 use Rattle.recipes.specs.Machine.{added, replaced, joined, eroded, dilated, ranked_by, act}
-use Rattle.recipes.specs.Meaning.{made}
 use Rattle.recipes.specs.Judge.{recipe_checked}
 use Rattle.recipes.proofs.Decodes.{IsSet, Sane}
 use Rattle.recipes.proofs.Plans.{plans, plan_of, signal_plan}
@@ -34,7 +33,7 @@ use Rattle.recipes.proofs.Accepted.{AllFit, Underway, accepted_start, Advanced, 
 use Rattle.rows.specs.declared.Change.{Change}
 use Rattle.rows.specs.declared.Change.TheVariants.{Stretch, OpenOrClose, Select}
 use Rattle.rows.specs.Private.{margin, Sound}
-use Rattle.rows.specs.Rows.{widened, paired}
+use Rattle.rows.specs.Rows.{widened}
 use Rattle.rows.specs.Changes.{is_sound}
 use Rattle.rows.proofs.Rows.{row_of, pair_of, scan_row, paired_row}
 use Rattle.rows.proofs.Changes.{plan_after, changed_row}

@@ -4,6 +4,9 @@
 // become. A run carries what it sees from sample to sample, so that each sample is loaded from the scan once. The filter is the largest,
 // over the terms, of the smallest value that the term reaches; the contracts say document 01's count of levels. No public function has a
 // `requires`, and nothing is assumed.
+
+#![tactic(auto)]
+
 ghost use Rattle.std.specs.Prelude.{◌≡◌, ◌+◌, ◌<◌, length, get_or, pos, negsuc, ◌-ℤ◌};
 ghost use Rattle.limits.specs.Limits.{reach};
 ghost use Rattle.theory.specs.Signals.{window, between};
@@ -16,7 +19,7 @@ use refusals::{Answer, Checked, Refusal};
 use windows::Beyond;
 
 // Whether a scan is a root of a form.
-#[derive(Drop)]
+#[derive(Clone, Copy)]
 pub enum RootAnswer {
     // Each sample equals its filtered value.
     Root,

@@ -1,6 +1,9 @@
 // Truth tables: a table of 64 bytes to its form, and a form to its table.
 //
 // Bit v mod 8 of byte v / 8 is the value on pattern v. No public function has a `requires`, and nothing is assumed.
+
+#![tactic(auto)]
+
 ghost use Rattle.std.specs.Prelude.{◌≡◌, true, false, not, cond, ◌&&◌, ◌++◌, ◌+◌, ◌-◌, ◌*◌, ◌^◌, ◌<◌, ◌≤◌, length, drop, set};
 ghost use Rattle.limits.specs.Limits.{width, patterns, byte_bits, table_bytes};
 ghost use Rattle.theory.specs.Lists.{bit, first, any_below};

@@ -2,6 +2,9 @@
 //
 // The running totals are exact for every night that a list can ask for (see proofs/Nights.antt). No public function has a `requires`,
 // and nothing is assumed.
+
+#![tactic(auto)]
+
 ghost use Rattle.std.specs.Prelude.{◌≡◌, ◌==◌};
 ghost use Rattle.theory.specs.Lists.{bit};
 ghost use Rattle.reports.specs.declared.CountAnswer.TheVariants.{Counted, Refused};
@@ -13,7 +16,7 @@ use reports::{CountAnswer, Counts};
 use std::num::wrapping_add_u64;
 
 // What became of a file of the list.
-#[derive(Drop)]
+#[derive(Clone, Copy)]
 pub enum Outcome {
     // It could not be opened or read.
     Unopened,
@@ -22,7 +25,7 @@ pub enum Outcome {
 }
 
 // The numbers of the night sheet's last line.
-#[derive(Drop)]
+#[derive(Clone, Copy)]
 pub struct Totals {
     // How many files were cleaned.
     pub cleaned: u64,

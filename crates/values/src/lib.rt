@@ -2,6 +2,9 @@
 //
 // It is the largest, over the terms, of the smallest value that the term reaches. No public function has a `requires`, and nothing is
 // assumed. The public contract is an equation for the result: it allows one.
+
+#![tactic(auto)]
+
 ghost use Rattle.std.specs.Prelude.{◌≡◌, cond, ◌+◌, ◌<◌, ◌≤◌, length, get_or};
 ghost use Rattle.limits.specs.Limits.{width, top};
 ghost use Rattle.theory.specs.Sets.{has};

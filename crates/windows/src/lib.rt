@@ -3,6 +3,9 @@
 // A position stands in a column, and column k stands for the offset k - 4. Only `column` and `position` know that the positions stand
 // in the order of their offsets. No public function has a `requires`, and nothing is assumed. Each contract is an equation for the
 // result: it allows one.
+
+#![tactic(auto)]
+
 ghost use Rattle.std.specs.Prelude.{◌≡◌, ◌-◌, ◌≤◌, ◌<◌, length, get_or};
 ghost use Rattle.std.proofs.Math.IntN.{sub_ℕ};
 ghost use Rattle.std.specs.Int.Signed.{mag};
@@ -17,7 +20,7 @@ use limits::{REACH, WIDTH};
 // ---- beyond the ends
 
 // What stands beyond the ends of a scan: an ends rule has become these two.
-#[derive(Drop)]
+#[derive(Clone, Copy)]
 pub struct Beyond {
     pub left: u16,
     pub right: u16,

@@ -1,0 +1,15 @@
+use Rattle.std.proofs.Common.{arith, refl, ◌∙◌}
+use Rattle.theory.proofs.Fills.{fill_none, fill_more}
+use Rattle.tables.proofs.Bytes.{filled_gather}
+use Rattle.compiler.specs.Private.{middle_of}
+use Rattle.compiler.proofs.read_byte.Goals as goal
+
+pub loop-i-init : goal.loop-i-init
+loop-i-init c = fill_none _ _
+
+pub loop-i-preserved : goal.loop-i-preserved
+unfolding middle_of
+loop-i-preserved c = fill_more c.loop-i.invariant (omega arith) refl
+
+pub returns : goal.returns
+returns c = c.byte.ensures ∙ filled_gather c.loop-i.invariant (omega arith)

@@ -1,0 +1,12 @@
+-- `runner::fill_piece` runs the recipe on a piece of the scan that has all that the piece's values depend on. Assumes nothing.
+use Rattle.std.proofs.Common.{rules, arith}
+use Rattle.runner.proofs.Pieces.{piece_run}
+use Rattle.runner.proofs.fill_piece.Goals as goal
+
+pub returns : goal.returns
+returns c =
+    let a = c.args in
+    piece_run a.left a.right a.recipe.now a.scan.now _ a.out.now c.copy.new.dst
+    a.at c.further_on-next.result c.reach_before-start.result c.further_on-stop.result
+    c.requires.0 (omega arith) (omega arith) c.reach_before-start.ensures c.further_on-stop.ensures
+    c.perform_all.ensures c.requires.1 (search rules) c.copy.ensures

@@ -1,0 +1,22 @@
+-- `runner::run` fills where nothing is refused, and leaves the slice as it was otherwise. Assumes nothing.
+use Rattle.std.proofs.Common.{sym, ◌∙◌, length}
+use Rattle.theory.specs.Signals.{held}
+use Rattle.runner.proofs.Fine.{run_fine, run_written}
+use Rattle.runner.proofs.run.Goals as goal
+
+pub fill-requires : goal.fill-requires
+fill-requires c =
+    let a = c.args in
+    let nothing = sym c.admit.ensures ∙ c.in-Fine.is in
+    let fine = run_fine a.recipe.now a.scan.now (length a.out.now) nothing in
+    (fine.0, fine.1)
+
+pub returns-in-Fine : goal.returns-in-Fine
+returns-in-Fine c =
+    let a = c.args in
+    let fine = sym c.admit.ensures ∙ c.in-Fine.is in
+    let ends = c.hold_ends-beyond.ensures in
+    record {
+      answer = rw fine;
+      out = run_written held a.recipe.now a.scan.now _ a.out.now _ _ fine ends.0 ends.1 c.fill.ensures;
+    }

@@ -1,0 +1,19 @@
+-- `scans::clean` meets its contract. Assumes nothing.
+use Rattle.std.proofs.Common.{arith}
+use Rattle.theory.specs.Signals.{cleaned}
+use Rattle.theory.proofs.Demands.{Samples}
+use Rattle.scans.proofs.Fine.{run_fine, run_gives}
+use Rattle.scans.proofs.clean.Goals as goal
+
+pub fill-requires : goal.fill-requires
+fill-requires c =
+    let a = c.args in
+    (run_fine a.terms.now a.scan.now c.admit_run.ensures c.in-Fine.is).2
+
+pub returns-in-Fine : goal.returns-in-Fine
+unfolding cleaned
+returns-in-Fine c =
+    let a = c.args in
+    let small : Samples a.scan.now = λ k. omega (arith, c.type_inv.scan k) in
+    run_gives a.terms.now a.scan.now a.out.now c.admit_run.ensures (λ x v. v)
+    c.in-Fine.is c.hold_ends.ensures small c.fill.ensures
