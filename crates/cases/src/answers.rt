@@ -5,59 +5,60 @@ use files::ReadAnswer;
 use refusals::{Answer, Checked, Refusal};
 use reports::CountAnswer;
 use scans::RootAnswer;
+use std::io::Write;
 use wire::output::word;
 
-fn accepted(value: usize) {
-    word(0);
-    word(value as u64);
+fn accepted<W: Write>(out: &mut W, value: usize) {
+    word(out, 0);
+    word(out, value as u64);
 }
 
-fn refused(refusal: Refusal) {
-    word(refusal.number as u64);
-    word(refusal.place as u64);
+fn refused<W: Write>(out: &mut W, refusal: Refusal) {
+    word(out, refusal.number as u64);
+    word(out, refusal.place as u64);
 }
 
 // A call whose answer is one value.
-pub fn answered(answer: Answer) {
+pub fn answered<W: Write>(out: &mut W, answer: Answer) {
     match answer {
-        Answer::Done(n) => accepted(n),
-        Answer::Refused(refusal) => refused(refusal),
+        Answer::Done(n) => accepted(out, n),
+        Answer::Refused(refusal) => refused(out, refusal),
     }
 }
 
 // The check of a form of so many terms.
-pub fn checked(checked: Checked, terms: usize) {
-    answered(refusals::answer_with(checked, terms));
+pub fn checked<W: Write>(out: &mut W, checked: Checked, terms: usize) {
+    answered(out, refusals::answer_with(checked, terms));
 }
 
 // The root question on so many samples.
-pub fn rooted(answer: RootAnswer, samples: usize) {
+pub fn rooted<W: Write>(out: &mut W, answer: RootAnswer, samples: usize) {
     match answer {
-        RootAnswer::Root => accepted(samples),
-        RootAnswer::Differs(x) => accepted(x),
-        RootAnswer::Refused(refusal) => refused(refusal),
+        RootAnswer::Root => accepted(out, samples),
+        RootAnswer::Differs(x) => accepted(out, x),
+        RootAnswer::Refused(refusal) => refused(out, refusal),
     }
 }
 
-pub fn read(answer: ReadAnswer) {
+pub fn read<W: Write>(out: &mut W, answer: ReadAnswer) {
     match answer {
         ReadAnswer::Read { samples, terms } => {
-            accepted(samples);
-            word(terms as u64);
+            accepted(out, samples);
+            word(out, terms as u64);
         }
-        ReadAnswer::Refused(refusal) => refused(refusal),
+        ReadAnswer::Refused(refusal) => refused(out, refusal),
     }
 }
 
-pub fn counted(answer: CountAnswer) {
+pub fn counted<W: Write>(out: &mut W, answer: CountAnswer) {
     match answer {
         CountAnswer::Counted(counts) => {
-            accepted(counts.samples as usize);
-            word(counts.changed);
-            word(counts.spikes);
-            word(counts.up);
-            word(counts.down);
+            accepted(out, counts.samples as usize);
+            word(out, counts.changed);
+            word(out, counts.spikes);
+            word(out, counts.up);
+            word(out, counts.down);
         }
-        CountAnswer::Refused(refusal) => refused(refusal),
+        CountAnswer::Refused(refusal) => refused(out, refusal),
     }
 }

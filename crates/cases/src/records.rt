@@ -3,35 +3,50 @@
 // A record has every field that any call takes, so that all are read in one way. A call uses those that
 // it takes; the others are empty.
 use crate::calls;
-use libc::STDOUT_FILENO;
+use std::io::{Read, Write};
 use wire::{input, output};
 
-// Makes calls as long as there are any. A proved loop has to end, and nothing says that standard input
+const MOST_CALLS: u32 = 1000000;
+
+// Makes calls as long as there are any. A proved loop has to end, and nothing says that the input
 // does: calls are counted down from more than any stream has.
-pub fn make_all(terms: &mut [u16], scan: &mut [u16], bytes: &mut [u8]) {
-    let mut left: u32 = 1000000;
-    while left > 0 && make_next(terms, scan, bytes) {
-        left -= 1;
+pub fn make_all<R: Read, W: Write>(
+    input: &mut R,
+    out: &mut W,
+    terms: &mut [u16],
+    scan: &mut [u16],
+    bytes: &mut [u8],
+) {
+    for _ in 0..MOST_CALLS {
+        if !make_next(input, out, terms, scan, bytes) {
+            break;
+        }
     }
 }
 
 // Reads the next record by way of the three slices, and makes its call. Answers false where there is none.
-fn make_next(terms: &mut [u16], scan: &mut [u16], bytes: &mut [u8]) -> bool {
-    let call = input::two_bytes();
+fn make_next<R: Read, W: Write>(
+    input: &mut R,
+    out: &mut W,
+    terms: &mut [u16],
+    scan: &mut [u16],
+    bytes: &mut [u8],
+) -> bool {
+    let call = input::two_bytes(input);
     if call == 0 {
         return false;
     }
-    print_name(bytes);
-    let t = input::words(terms);
-    let s = input::words(scan);
-    let b = input::bytes(bytes);
-    calls::make(call, &terms[..t], &scan[..s], &bytes[..b]);
-    output::end_of_line();
+    print_name(input, out, bytes);
+    let t = input::words(input, terms);
+    let s = input::words(input, scan);
+    let b = input::bytes(input, bytes);
+    calls::make(input, out, call, &terms[..t], &scan[..s], &bytes[..b]);
+    output::end_of_line(out);
     true
 }
 
 // A line begins with the name that the record has for the call.
-fn print_name(room: &mut [u8]) {
-    let n = input::bytes(room);
-    io::write_all(STDOUT_FILENO, &room[..n]);
+fn print_name<R: Read, W: Write>(input: &mut R, out: &mut W, room: &mut [u8]) {
+    let n = input::bytes(input, room);
+    output::text(out, &room[..n]);
 }

@@ -2,50 +2,51 @@
 //
 // The number is 0 where the call was accepted. Else it is the refusal's, and the first value its place.
 use refusals::{Answer, Checked, Refusal};
+use std::io::Write;
 use totals::Totals;
 use wire::output::word;
 
-pub fn accepted(value: u64) {
-    word(0);
-    word(value);
+pub fn accepted<W: Write>(out: &mut W, value: u64) {
+    word(out, 0);
+    word(out, value);
 }
 
-fn refused(refusal: Refusal) {
-    word(refusal.number as u64);
-    word(refusal.place as u64);
+fn refused<W: Write>(out: &mut W, refusal: Refusal) {
+    word(out, refusal.number as u64);
+    word(out, refusal.place as u64);
 }
 
 // A call whose answer is one value.
-pub fn answered(answer: Answer) {
+pub fn answered<W: Write>(out: &mut W, answer: Answer) {
     match answer {
-        Answer::Done(n) => accepted(n as u64),
-        Answer::Refused(refusal) => refused(refusal),
+        Answer::Done(n) => accepted(out, n as u64),
+        Answer::Refused(refusal) => refused(out, refusal),
     }
 }
 
 // A verdict, and the pieces that it took.
-pub fn judged(verdict: Checked, pieces: u64) {
+pub fn judged<W: Write>(out: &mut W, verdict: Checked, pieces: u64) {
     match verdict {
-        Checked::Fine => accepted(0),
-        Checked::Refused(refusal) => refused(refusal),
+        Checked::Fine => accepted(out, 0),
+        Checked::Refused(refusal) => refused(out, refusal),
     }
-    word(pieces);
+    word(out, pieces);
 }
 
 // Totals, which are never refused.
-pub fn summed(totals: Totals) {
-    accepted(totals.cleaned);
-    word(totals.unopened);
-    word(totals.seven);
-    word(totals.eight);
-    word(totals.nine);
-    word(totals.fifteen);
-    word(totals.sixteen);
-    word(totals.seventeen);
-    word(totals.eighteen);
-    word(totals.samples);
-    word(totals.changed);
-    word(totals.spikes);
-    word(totals.up);
-    word(totals.down);
+pub fn summed<W: Write>(out: &mut W, totals: Totals) {
+    accepted(out, totals.cleaned);
+    word(out, totals.unopened);
+    word(out, totals.seven);
+    word(out, totals.eight);
+    word(out, totals.nine);
+    word(out, totals.fifteen);
+    word(out, totals.sixteen);
+    word(out, totals.seventeen);
+    word(out, totals.eighteen);
+    word(out, totals.samples);
+    word(out, totals.changed);
+    word(out, totals.spikes);
+    word(out, totals.up);
+    word(out, totals.down);
 }

@@ -2,6 +2,9 @@
 //
 // second/README.md has the formats of both. The program is proved safe and ending; that each line is
 // the one expected is shown by running it on the stored vectors.
+
+#![tactic(auto)]
+
 mod answers;
 mod calls;
 mod pieces;
@@ -9,8 +12,8 @@ mod records;
 
 use wire::room;
 
-fn main() {
+fn main(rt: HostRuntime) {
     let mut text = room::bytes();
     let mut sizes = room::words();
-    records::make_all(&mut text, &mut sizes);
+    records::make_all(&mut rt.stdin(), &mut rt.stdout(), &mut text, &mut sizes);
 }

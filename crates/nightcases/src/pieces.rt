@@ -3,6 +3,7 @@ ghost use Rattle.std.specs.Prelude.{◌≤◌};
 
 use crate::answers;
 use lists::Judge;
+use std::io::Write;
 use std::num::wrapping_add_u64;
 
 // A proved loop has to end, and sizes of 0 bring it no nearer: pieces are counted down from more than a text is cut into.
@@ -45,7 +46,7 @@ fn counted(pieces: u64, judge: Judge) -> u64 {
 }
 
 // Judges the text in pieces of the sizes, and prints the verdict and how many pieces had come when line 251 began.
-pub fn judge(text: &[u8], sizes: &[u16]) {
+pub fn judge<W: Write>(out: &mut W, text: &[u8], sizes: &[u16]) {
     let mut judge = lists::start();
     let mut pieces: u64 = 0;
     let mut turn: usize = 0;
@@ -59,5 +60,5 @@ pub fn judge(text: &[u8], sizes: &[u16]) {
         turn = next(turn, sizes.len());
         at = end;
     }
-    answers::judged(lists::verdict(judge), pieces);
+    answers::judged(out, lists::verdict(judge), pieces);
 }

@@ -1,4 +1,3 @@
 -- Laws of the calls to the operating system, for its proofs.
-pub mod Kept
 pub mod Paths
-pub mod Signs
+pub mod Bytes

@@ -2,3 +2,4 @@
 pub mod Reads
 pub mod Paths
 pub mod Private
+pub mod Writes

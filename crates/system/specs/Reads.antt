@@ -13,3 +13,7 @@ pub record ReadsOn (bytes : ℕ) (old new : List ℕ) (n : ℕ) : Type 0 where
 -- a file of n bytes was read: all of them lie at the start of the room, where it is not too long
 abbrev pub Kept : ℕ → List ℕ → Type 0
 Kept n room = n ≤ longest_file → IsPrefixLen n room
+
+-- f is the file of n bytes that was read: those in the room, where it is not too long
+abbrev pub IsRead : ℕ → List ℕ → List ℕ → Type 0
+IsRead n room f = (length f ≡ n) × (n ≤ longest_file → f ≡ take n room)

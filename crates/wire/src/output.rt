@@ -1,8 +1,11 @@
 // Numbers and lent slices on a call's line.
-use libc::STDOUT_FILENO;
+use std::io::Write;
 
 // More elements are given by their checksum.
 const LONGEST_SHOWN: usize = 40;
+
+// The most digits of a number of 64 bits.
+const DIGITS: usize = 20;
 
 const TWO_TO_32: u64 = 1 << 32;
 
@@ -10,24 +13,37 @@ const TWO_TO_48: u64 = 1 << 48;
 
 const SIGNED_TWO_TO_32: i64 = 1 << 32;
 
-// Bytes as they are.
-pub fn text(bytes: &[u8]) {
-    io::write_all(STDOUT_FILENO, bytes);
+// Bytes as they are, as far as no write fails. A failure is not told: the calls that follow are made all the same.
+pub fn text<W: Write>(out: &mut W, bytes: &[u8]) {
+    let mut done = 0;
+    while done < bytes.len() {
+        match out.write(&bytes[done..]) {
+            Ok(more) if more > 0 => done += more,
+            _ => return,
+        }
+    }
+}
+
+// The digits of a number.
+fn decimal<W: Write>(out: &mut W, n: u64) {
+    let mut digits = [0u8; DIGITS];
+    let count = io::decimal(n, &mut digits);
+    text(out, &digits[..count]);
 }
 
 // A space and a number.
-pub fn word(n: u64) {
-    io::write_all(STDOUT_FILENO, b" ");
-    io::print_decimal(STDOUT_FILENO, n);
+pub fn word<W: Write>(out: &mut W, n: u64) {
+    text(out, b" ");
+    decimal(out, n);
 }
 
 // A space, a sign where there is one, and an element that is given as its value plus 2^32.
-fn signed_word(shifted: u64) {
+fn signed_word<W: Write>(out: &mut W, shifted: u64) {
     if shifted < TWO_TO_32 {
-        io::write_all(STDOUT_FILENO, b" -");
-        io::print_decimal(STDOUT_FILENO, TWO_TO_32 - shifted);
+        text(out, b" -");
+        decimal(out, TWO_TO_32 - shifted);
     } else {
-        word(shifted - TWO_TO_32);
+        word(out, shifted - TWO_TO_32);
     }
 }
 
@@ -66,41 +82,39 @@ fn mixed(sum: u64, element: u64) -> u64 {
 }
 
 // Prints an element of few. Answers the checksum with it, by which many are given.
-fn show(n: usize, sum: u64, shifted: u64) -> u64 {
+fn show<W: Write>(out: &mut W, n: usize, sum: u64, shifted: u64) -> u64 {
     if n <= LONGEST_SHOWN {
-        signed_word(shifted);
+        signed_word(out, shifted);
     }
     mixed(sum, shifted)
 }
 
 // The elements of the three slices one after the other, or the checksum of more than forty.
-fn elements(bytes: &[u8], words: &[u16], residues: &[i32]) {
-    io::write_all(STDOUT_FILENO, b" :");
+fn elements<W: Write>(out: &mut W, bytes: &[u8], words: &[u16], residues: &[i32]) {
+    text(out, b" :");
     let n = bytes.len() + words.len() + residues.len();
     let mut sum: u64 = 0;
-    let mut i: usize = 0;
-    while i < n {
-        sum = show(n, sum, element(bytes, words, residues, i));
-        i += 1;
+    for i in 0..n {
+        sum = show(out, n, sum, element(bytes, words, residues, i));
     }
     if n > LONGEST_SHOWN {
-        io::write_all(STDOUT_FILENO, b" #");
-        io::print_decimal(STDOUT_FILENO, sum);
+        text(out, b" #");
+        decimal(out, sum);
     }
 }
 
-pub fn bytes(lent: &[u8]) {
-    elements(lent, &[0u16; 0], &[0i32; 0]);
+pub fn bytes<W: Write>(out: &mut W, lent: &[u8]) {
+    elements(out, lent, &[0u16; 0], &[0i32; 0]);
 }
 
-pub fn words(lent: &[u16]) {
-    elements(&[0u8; 0], lent, &[0i32; 0]);
+pub fn words<W: Write>(out: &mut W, lent: &[u16]) {
+    elements(out, &[0u8; 0], lent, &[0i32; 0]);
 }
 
-pub fn residues(lent: &[i32]) {
-    elements(&[0u8; 0], &[0u16; 0], lent);
+pub fn residues<W: Write>(out: &mut W, lent: &[i32]) {
+    elements(out, &[0u8; 0], &[0u16; 0], lent);
 }
 
-pub fn end_of_line() {
-    io::write_all(STDOUT_FILENO, b"\n");
+pub fn end_of_line<W: Write>(out: &mut W) {
+    text(out, b"\n");
 }

@@ -1,0 +1,2 @@
+-- Laws of the report program, for its proofs.
+pub mod Files
