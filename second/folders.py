@@ -59,7 +59,15 @@ class Folder:
 
     def sheet(self, text):
         """What the program has to print of the list."""
-        return nights.sheet(text, lambda name: self.outcomes.get(name, UNOPENED)).encode()
+        return nights.sheet(text, self.outcome).encode()
+
+    def outcome(self, name):
+        """What becomes of a name in the program: the toolchain opens none that is not UTF-8."""
+        try:
+            name.decode()
+        except UnicodeDecodeError:
+            return UNOPENED
+        return self.outcomes.get(name, UNOPENED)
 
     def check(self, what, text, command=None, **streams):
         """The program prints the sheet, and says nothing. The list comes by a pipe."""

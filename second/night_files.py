@@ -31,8 +31,8 @@ from chance import Chance
 from folders import Watch, check_in_a_folder, in_turn, listed
 from groups import reports
 from groups.forms import LONGEST_FORM
-from programs import (LONG, LONGEST_RUN, SYSTEM_FILE, WORKED, changing, check_said, expect, interrupts, lengthen,
-                      lines_of_changing, run, system_file_length)
+from programs import (LONG, LONGEST_RUN, SYSTEM_FILE, WORKED, changing, check_said, expect, file_told_empty, interrupts,
+                      lengthen, lines_of_changing, run, system_file_length)
 from rules.files import file_of
 from rules.limits import LONGEST_FILE, LONGEST_NAME, MOST_NAMES, MOST_SAMPLES, TOP
 from rules.lines import fields_of_long
@@ -92,6 +92,12 @@ def check_long_files(folder):
         name = os.fsencode(SYSTEM_FILE)
         folder.outcomes[name] = fields_of_long(length)
         folder.check("a file of the system's own", listed(name, sound, name))
+    # one whose end lies before what was read of it, by the system's word, is what was read of it
+    with file_told_empty() as path:
+        if path:
+            name = os.fsencode(path)
+            folder.outcomes[name] = fields_of_long(LONGEST_FILE + 1)
+            folder.check("a file that the system tells is empty", listed(name, sound, name))
 
 
 def check_doubles(folder):
@@ -337,7 +343,7 @@ def check_opened(folder):
                (folder.sheet(listed(*names)), b""))
     expect("what is opened after it", watch.seen(), in_turn(names))
     with open("/dev/full", "wb") as full:
-        run(folder.command, input=listed(*names), cwd=folder.path, stdout=full)
+        run(folder.command, status=1, input=listed(*names), cwd=folder.path, stdout=full)
     expect("what is opened where nothing can be written", watch.seen(), in_turn(names[:1]))
 
 
@@ -424,7 +430,7 @@ def check_unread_lists(folder):
     folder.put(b"a", WORKED)
 
     def check_unread(what, number, **streams):
-        printed, said = run(folder.command, cwd=folder.path, **streams)
+        printed, said = run(folder.command, status=1, cwd=folder.path, **streams)
         expect(what, printed, b"")
         check_said(what, said, b"night: no sheet is printed, since standard input could not be read", number)
 
@@ -449,7 +455,7 @@ def check_unwritten(folder):
     text = listed(*[a] * 20)
 
     def check_one(what, number, text=text, **streams):
-        _, said = run(folder.command, input=text, cwd=folder.path, **streams)
+        _, said = run(folder.command, status=1, input=text, cwd=folder.path, **streams)
         check_said(what, said, b"night: the sheet could not be written whole", number)
 
     for what, a_list in (("a night", text), ("no names", b""), ("a refused list", b"\n")):

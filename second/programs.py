@@ -8,6 +8,7 @@ import subprocess
 import sys
 import tempfile
 import threading
+import time
 
 from groups.files import WORKED_FILE
 from rules.limits import LONGEST_FILE
@@ -27,10 +28,11 @@ def expect(what, found, wanted):
         sys.exit("%s: %s, and not %s" % (what, shown(found), shown(wanted)))
 
 
-def run(command, **streams):
-    """What the program printed, and what it said on standard error."""
+def run(command, status=0, **streams):
+    """What the program printed, and what it said on standard error. It ends with this status."""
     streams.setdefault("stdout", subprocess.PIPE)
     done = subprocess.run(command, stderr=subprocess.PIPE, timeout=LONGEST_RUN, **streams)
+    expect("the status, where %s was said" % shown(done.stderr), done.returncode, status)
     return done.stdout, done.stderr
 
 
@@ -70,6 +72,23 @@ def system_file_length():
         return len(pathlib.Path(SYSTEM_FILE).read_bytes())
     except OSError:
         return 0
+
+
+# So many bytes are a process's arguments here.
+LONG_ARGUMENTS = 60_000
+
+
+@contextlib.contextmanager
+def file_told_empty():
+    """The path of a regular file with more bytes than any file may have, whose end the system tells as 0: a process's arguments. None
+    where there is no /proc."""
+    waiting = [sys.executable, "-c", "input()", *["a" * 999] * (LONG_ARGUMENTS // 1000)]
+    with subprocess.Popen(waiting, stdin=subprocess.PIPE) as process:
+        path = pathlib.Path("/proc/%d/cmdline" % process.pid)
+        while path.exists() and len(path.read_bytes()) < LONG_ARGUMENTS:
+            time.sleep(0.01)
+        yield path if path.exists() else None
+        process.communicate(b"\n")
 
 
 # ---- a file that is cut and lengthened

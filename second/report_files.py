@@ -26,8 +26,8 @@ import time
 
 from chance import Chance
 from groups import lines, reports
-from programs import (LONG, LONGEST_RUN, SYSTEM_FILE, WORKED, changing, check_said, expect, interrupts, lengthen,
-                      lines_of_changing, long_line, run, system_file_length)
+from programs import (LONG, LONGEST_RUN, SYSTEM_FILE, WORKED, changing, check_said, expect, file_told_empty, interrupts,
+                      lengthen, lines_of_changing, long_line, run, system_file_length)
 from rules.limits import LONGEST_FILE
 from rules.lines import line_of
 
@@ -42,13 +42,13 @@ A_WHILE = 2
 
 def check_unread(command, what, number, **streams):
     """No line is printed, and standard error says why."""
-    printed, said = run(command, **streams)
+    printed, said = run(command, status=1, **streams)
     expect(what, printed, b"")
     check_said(what, said, b"report: no line is printed, since standard input could not be read", number)
 
 
 def check_unwritten(command, what, number, **streams):
-    _, said = run(command, input=WORKED, **streams)
+    _, said = run(command, status=1, input=WORKED, **streams)
     check_said(what, said, b"report: the line could not be written whole", number)
 
 
@@ -134,6 +134,14 @@ def check_system_file(command):
     if length > LONGEST_FILE:
         with open(SYSTEM_FILE, "rb") as file:
             expect(SYSTEM_FILE, run(command, stdin=file), (long_line(length), b""))
+
+
+def check_told_empty(command):
+    """A file whose end lies before what was read of it, by the system's word, is what was read of it."""
+    with file_told_empty() as path:
+        if path:
+            with open(path, "rb") as file:
+                expect(str(path), run(command, stdin=file), (long_line(LONGEST_FILE + 1), b""))
 
 
 def check_changing(command):
@@ -237,6 +245,7 @@ def main(command):
     check_endless_input(command)
     check_offsets(command)
     check_system_file(command)
+    check_told_empty(command)
     check_changing(command)
     print("it says how long an input is that is too long, and reads no more of a file than that needs")
     check_unread_inputs(command)

@@ -1,6 +1,6 @@
 """Wrong versions: the must-fail edits of crates/, each shown on calls on which it goes wrong.
 
-    python3 second/wrong_versions.py --check        whether what the edits say is right is so
+    python3 second/wrong_versions.py --check        whether they can be made, and what they say is right is so
     python3 second/wrong_versions.py --run          makes the calls, on the code and on each edit
     python3 second/wrong_versions.py --run NAME..   those of some edits, as scans/always-a-root
 
@@ -17,6 +17,10 @@ steps: signal, rank 2 56, larger; an outcome is its line: 5 1 1 80 0, unopened, 
 of the program `night` has / between its lines, and 250 unopened is so many lines in turn; sheet_of_length
 40000 is that of one file, of so many bytes. An edit of a definition says "asks" in place of "gives": the
 line that the definition would ask for.
+
+An edit of what the programs ask of the system, that no such call shows, says instead when it goes wrong:
+
+    no call: the input is a pipe that gives a part of the file at a time
 
 The calls of `cases` go through the C interface, so that its own edits are shown in the same way: a
 small program of Rattle makes them. Those of `nightcases` and `night` are made by these. `rt try` runs
@@ -48,7 +52,7 @@ Edit = namedtuple("Edit", "name crate of_code changes shown")
 
 # ---- what an edit says
 
-SAYS = re.compile(r"# (call|right|gives|asks): (.*)")
+SAYS = re.compile(r"# (call|right|gives|asks|no call): (.*)")
 STEPS = "signal erode dilate open close rank median larger smaller".split()
 GROUP = re.compile(r"\(([^()]*)\)\*(\d+)")
 
@@ -112,6 +116,8 @@ def edit_in(path):
         elif key == "new":
             changes.append((file, old, rest[1:]))
     of_code = file.startswith("src/")
+    if [key for key, _ in says] == ["no call"]:
+        return Edit(name, crate, of_code, changes, [])
     wanted = ["call", "right", "gives" if of_code else "asks"]
     if not says or [key for key, _ in says] != wanted * (len(says) // len(wanted)):
         sys.exit("%s: its lines have to be %s" % (name, ", ".join(wanted)))
@@ -132,10 +138,25 @@ def row_end(edit, shown):
     return "| `%s` | `%s` | `%s` | %s |" % (*texts, edit.name)
 
 
+def edited(edit, crates):
+    """The files of the edit's crate that it changes, with their new text. What it replaces stands once."""
+    texts = {}
+    for file, old, new in edit.changes:
+        path = crates / edit.crate / file
+        text = texts.get(path) or path.read_text()
+        if text.count(old) != 1:
+            sys.exit("%s: %s has not once %s" % (edit.name, file, old))
+        texts[path] = text.replace(old, new)
+    return texts
+
+
 def check(edits):
-    """Exits 1 where a right line is not what the rules say, a wrong one is, or a row is missing."""
+    """Exits 1 where an edit cannot be made, a right line is not what the rules say, a wrong one is, or a row is missing."""
     promises = PROMISES.read_text()
     for edit in edits:
+        edited(edit, ROOT / "crates")
+        if not edit.shown and "| %s |" % edit.name not in promises:
+            sys.exit("%s has no row of %s" % (PROMISES.name, edit.name))
         for shown in edit.shown:
             right = line(shown.call)
             if shown.right != right:
@@ -144,7 +165,9 @@ def check(edits):
                 sys.exit("%s: what it says is wrong is right" % edit.name)
             if row_end(edit, shown) not in promises:
                 sys.exit("%s has no row %s" % (PROMISES.name, row_end(edit, shown)))
-    print("%d wrong versions: each says what is right, and stands in docs/PROMISES.md" % len(edits))
+    unshown = sum(not edit.shown for edit in edits)
+    print("%d wrong versions: each%s says what is right, and stands in docs/PROMISES.md"
+          % (len(edits), " but the %d that no call shows" % unshown if unshown else ""))
 
 
 # ---- the program that makes the calls
@@ -167,12 +190,12 @@ def function(place, a_call):
         if kind in FILLERS:
             made.append("let mut lent%d = [%d%s; %d];" % (i, FILLERS[kind], TYPES[kind], given))
             passed.append("&mut lent%d" % i)
-            printed.append("output::%s(&lent%d);" % (PRINTS[kind], i))
+            printed.append("output::%s(out, &lent%d);" % (PRINTS[kind], i))
         elif kind == LENT_TOTALS:
             made.append("let mut totals = [%s];" % ", ".join("%du64" % number for number in given))
             passed.append("&mut totals")
-            printed.append('output::text(b" :");')
-            printed += ["output::word(totals[%d]);" % k for k in range(len(given))]
+            printed.append('output::text(out, b" :");')
+            printed += ["output::word(out, totals[%d]);" % k for k in range(len(given))]
         else:
             passed.append(str(given) if kind == NUMBER else slice_of(kind, given))
     if a_call.name == "count":
@@ -185,23 +208,24 @@ def function(place, a_call):
         passed.append("&mut terms_read")
         values.append("terms_read as u64")
     body = [
-        'io::write_all(STDOUT_FILENO, b"%s");' % a_call.name,
+        'output::text(out, b"%s");' % a_call.name,
         "let mut value: usize = 0;",
         *made,
         "let result = exports::sf_%s(%s);" % (a_call.name, ", ".join(passed)),
-        "output::word(result as u64);",
-        "if result == 0 { %s } else { output::word(value as u64); }"
-        % " ".join("output::word(%s);" % value for value in values),
+        "output::word(out, result as u64);",
+        "if result == 0 { %s } else { output::word(out, value as u64); }"
+        % " ".join("output::word(out, %s);" % value for value in values),
         *printed,
-        "output::end_of_line();",
+        "output::end_of_line(out);",
     ]
-    return "fn call%d() {\n%s\n}\n" % (place, "\n".join(body))
+    return "fn call%d<W: Write>(out: &mut W) {\n%s\n}\n" % (place, "\n".join(body))
 
 
 def program(calls):
     functions = [function(place, a_call) for place, a_call in enumerate(calls)]
-    main = "fn main() { %s }\n" % " ".join("call%d();" % place for place in range(len(calls)))
-    return "".join(["use libc::STDOUT_FILENO;\nuse wire::output;\n", *functions, main])
+    made = " ".join("call%d(&mut rt.stdout());" % place for place in range(len(calls)))
+    main = "fn main(rt: HostRuntime) { %s }\n" % made
+    return "".join(["#![tactic(auto)]\nuse std::io::Write;\nuse wire::output;\n", *functions, main])
 
 
 # ---- running it
@@ -210,39 +234,27 @@ def program(calls):
 JOBS = int(os.environ.get("RT_JOBS") or min(os.cpu_count(), 4))
 
 
-def apply(changes, crate):
-    for file, old, new in changes:
-        text = (crate / file).read_text()
-        assert text.count(old) == 1, "%s has not once %s" % (file, old)
-        (crate / file).write_text(text.replace(old, new))
-
-
 def as_shown(calls, crates):
-    """Writes the crate that makes calls by the C interface, and answers its line of crates.txt."""
+    """Writes the crate that makes calls by the C interface; nothing is on its standard input, and it takes no file."""
     (crates / "shown" / "src").mkdir(parents=True)
     (crates / "shown" / "src" / "main.rt").write_text(program(calls))
-    return "shown: exports wire io libc\n"
+    return b"", []
 
 
 def as_nightcases(calls, crates):
-    """Gives `nightcases` the calls' records."""
-    (crates / "nightcases" / "stdin").write_bytes(b"".join(map(record, calls)) + END)
-    return ""
+    """What `nightcases` takes: the calls' records."""
+    return b"".join(map(record, calls)) + END, []
 
 
 def as_night(calls, crates):
-    """Gives `night` the list that its one call has, or one of a file with so many bytes."""
+    """What `night` takes: the list that its one call has, or one of a file with so many bytes, and that file."""
     (a_call,) = calls
     (given,) = a_call.arguments
-    if a_call.name == "sheet_of_length":
-        (crates / "night" / "data").mkdir()
-        (crates / "night" / "data" / "long").touch()
-        os.truncate(crates / "night" / "data" / "long", given)
-        text = b"long"
-    else:
-        text = joined(given)
-    (crates / "night" / "stdin").write_bytes(text)
-    return ""
+    if a_call.name != "sheet_of_length":
+        return joined(given), []
+    (crates / "night" / "long").touch()
+    os.truncate(crates / "night" / "long", given)
+    return b"long", ["--data", "long=long"]
 
 
 # By what the calls of each program are made.
@@ -265,12 +277,16 @@ def run_by(crate, prepare, calls, lines, edit):
         for source in ROOT.glob("crates/*/src"):
             shutil.copytree(source, crates / source.parent.name / "src")
         if edit:
-            apply(edit.changes, crates / edit.crate)
-        listed = (ROOT / "crates.txt").read_text() + prepare(calls, crates)
+            for path, text in edited(edit, crates).items():
+                path.write_text(text)
+        given, files = prepare(calls, crates)
+        # `shown` stands on `exports`, so that is a library here, and none for C.
+        listed = (ROOT / "crates.txt").read_text().replace("exports staticlib:", "exports:")
+        listed += "shown: exports wire\n" if (crates / "shown").exists() else ""
         pathlib.Path(folder, "crates.txt").write_text(listed)
-        (crates / crate / "stdout").write_text("".join(printed(crate, text) for text in lines))
-        tried = subprocess.run(["rt", "try", crate], cwd=folder, capture_output=True, text=True)
-        return tried.stdout + tried.stderr if tried.returncode else ""
+        tried = subprocess.run(["rt", "try", *files], cwd=crates / crate, input=given, capture_output=True)
+        is_so = tried.returncode == 0 and tried.stdout.decode() == "".join(printed(crate, text) for text in lines)
+        return "" if is_so else (tried.stdout + tried.stderr).decode(errors="replace")
 
 
 def run(calls, lines, edit=None):
@@ -297,12 +313,12 @@ def run_all(edits):
     if amiss:
         sys.exit("the code as it stands:\n" + amiss)
     print("the code as it stands gives the right line on each of %d calls" % len(shown))
-    of_code = [edit for edit in edits if edit.of_code]
+    of_code = [edit for edit in edits if edit.of_code and edit.shown]
     with concurrent.futures.ThreadPoolExecutor(JOBS) as pool:
         faults = [amiss for amiss in pool.map(run_edit, of_code) if amiss]
     if faults:
         sys.exit("%d of %d edits of code do not give what they say" % (len(faults), len(of_code)))
-    print("%d edits of code give what they say; %d are of definitions, which have nothing to run"
+    print("%d edits of code give what they say; %d are of definitions, or no call shows them, and have nothing to run"
           % (len(of_code), len(edits) - len(of_code)))
 
 

@@ -36,7 +36,6 @@ def make_files(rng):
         b"longest": longest,
         b"longer": longest + b"\0",
         b"n" * LONGEST_NAME: file,
-        b"\xff\xfe\x80": file,
         b" a name\r": file,
     }
     for index in range(8):
@@ -57,6 +56,15 @@ def make_files(rng):
     others = (b"none", b"sound 0\r", b"./sound 0", b"sound 0/", b"folder/", b"nul\0", b"/dev/null", b"/dev/zero",
               b"/proc/self/mem", b"/proc/kallsyms", b" ")
     return [*sorted(os.listdir(b".")), *others]
+
+
+def see_bytes():
+    """A name that is not UTF-8, of a file that is there: night opens it, and the program can't."""
+    with open(b"\xff\xfe\x80", "wb") as opened:
+        opened.write(bytes.fromhex("0A000A005A000A000A00 180028003000 1C000000 12000000 0300 5346"))
+    ours, theirs = stackfilter.night([b"\xff\xfe\x80"]), printed([b"\xff\xfe\x80"])
+    if (ours.splitlines()[0], theirs.splitlines()[0]) != ("5 1 1 80 0", "unopened"):
+        sys.exit(f"of a name that is not UTF-8 night gives {ours!r} and the program {theirs!r}")
 
 
 def lists(rng, names):
@@ -95,6 +103,7 @@ def main():
                 compared += 1
                 for line in ours.splitlines()[:-1]:
                     met["cleaned" if line[0].isdigit() else " ".join(line.split()[:2])] += 1
+            see_bytes()
             os.chdir("/")
     if 0 in met.values():
         sys.exit(f"a sort of line was never met: {met}")
