@@ -63,7 +63,7 @@ module _ (family : Family) where
   unfoldable pub marked : List ℕ → Bool
   marked f = eqb (word_at f (mark_field f)) family.mark
 
-  -- pointsAtTerms above; then: the sample distance is the file length, is not below the term distance, and differs from it by a multiple of
+  -- points_at_terms above; then: the sample distance is the file length, is not below the term distance, and differs from it by a multiple of
   -- the bytes a sample
   unfoldable pub points_at_samples : List ℕ → Bool
   points_at_samples f =

@@ -124,7 +124,7 @@ fn points_at_terms(file: &[u8]) -> bool
 // Whether the sample distance is the whole file, and leaves whole samples before the terms.
 fn points_at_samples(family: Family, file: &[u8]) -> bool
     requires usable { Usable family }
-    requires trailer_bytes_in_bounds { trailer_bytes ≤ length file.now }
+    requires has_trailer { trailer_bytes ≤ length file.now }
     ensures { result ≡ points_at_samples family file.now }
 {
     let to_samples = long_at(file, file.len() - SAMPLES_FIELD);
@@ -166,7 +166,7 @@ fn check_layout(family: Family, file: &[u8]) -> Checked
 // The number of samples of a file that is laid out well.
 fn count_samples(family: Family, file: &[u8]) -> usize
     requires usable { Usable family }
-    requires file_value { layout_checked family file.now ≡ Fine }
+    requires laid_out { layout_checked family file.now ≡ Fine }
     ensures { result ≡ sample_count family file.now }
 {
     (file.len() - terms_back(file)) / family.bytes
@@ -176,8 +176,8 @@ fn count_samples(family: Family, file: &[u8]) -> usize
 
 // Copies n words of the file, from a place on, to the start of out.
 fn copy_words(file: &[u8], at: usize, n: usize, out: &mut [u16])
-    requires n_in_bounds { at + word_bytes * n ≤ length file.now }
-    requires n_in_bounds_2 { n ≤ length out.old }
+    requires fits_file { at + word_bytes * n ≤ length file.now }
+    requires fits_slice { n ≤ length out.old }
     ensures { out.new ≡ words_from file.now at n ++ drop n out.old }
 {
     let mut i = 0;
@@ -212,7 +212,7 @@ fn check_form(file: &[u8], at: usize, n: usize) -> Checked
 // What a file that is laid out well holds: its terms are judged where they lie, then its samples are counted.
 fn check_contents(family: Family, file: &[u8]) -> Checked
     requires usable { Usable family }
-    requires file_value { layout_checked family file.now ≡ Fine }
+    requires laid_out { layout_checked family file.now ≡ Fine }
     ensures { result ≡ or_else (form_checked width (file_terms file.now))
         (scan_checked family.most (sample_count family file.now)) }
 {
@@ -317,8 +317,8 @@ fn put_words(numbers: &[u16], at: usize, out: &mut [u8])
 
 // Puts the trailer of a file of so many samples and terms: the two distances, the number of terms, and the mark.
 fn put_trailer(family: Family, samples: usize, terms: usize, out: &mut [u8])
-    requires terms_le_most_terms { (terms ≤ most_terms) × (file_length family samples terms < 2 ^ 32) }
-    requires trailer_bytes_in_bounds { trailer_bytes ≤ length out.old }
+    requires bounded { (terms ≤ most_terms) × (file_length family samples terms < 2 ^ 32) }
+    requires has_trailer { trailer_bytes ≤ length out.old }
     ensures { out.new
         ≡ sets out.old (length out.old - trailer_bytes) (trailer family samples terms) }
 {
@@ -350,8 +350,8 @@ fn admit_write(family: Family, terms: &[u16], samples: usize, lent: usize) -> Ch
 
 // Puts a whole file of counts.
 fn fill_file(terms: &[u16], scan: &[u16], out: &mut [u8])
-    requires scan_len_bound { (length scan.now ≤ most_samples) × (length terms.now ≤ most_terms) }
-    requires out_len { length out.old ≡ file_length counts_family (length scan.now) (length terms.now) }
+    requires bounded { (length scan.now ≤ most_samples) × (length terms.now ≤ most_terms) }
+    requires room { length out.old ≡ file_length counts_family (length scan.now) (length terms.now) }
     ensures { out.new ≡ counts_file terms.now scan.now }
 {
     put_words(scan, 0, out);

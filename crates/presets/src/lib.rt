@@ -54,6 +54,7 @@ fn tabulate(small: u8) -> [u8; TABLE_BYTES]
 
 // A preset's form: answers the number of terms, and writes the form from the start of `terms`.
 // Refuses 14 where the number is over 19, then 6 where fewer elements are lent than the form has terms.
+#[tactic(auto, unfolding(crate::specs::Presets::preset_checked), using(tables::proofs::Accepted::gives_refused))]
 pub fn preset(number: u64, terms: &mut [u16]) -> Answer
     ensures { Preset number terms.old terms.new result }
 {

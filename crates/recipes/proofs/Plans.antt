@@ -13,7 +13,7 @@ use Rattle.limits.specs.Limits.{step_bytes, most_signals}
 use Rattle.theory.specs.Orders.{Order, larger, smaller, counts, bools}
 use Rattle.theory.specs.Ranks.{pick}
 use Rattle.theory.specs.Signals.{Ends, endless, window, spread}
-use Rattle.theory.proofs.Plans.{Plan, scan, near, larger_of_lem, smaller_of_lem, meaning, truth}
+use Rattle.theory.proofs.Plans.{Plan, scan, near, larger_plan, smaller_plan, meaning, truth}
 use Rattle.recipes.specs.declared.Step.{Step}
 use Rattle.recipes.specs.declared.Step.TheVariants.{Signal, Erode, Dilate, Open, Close, Rank, Median, Larger, Smaller}
 use Rattle.recipes.specs.declared.Decoded.{Decoded}
@@ -24,14 +24,14 @@ use Rattle.recipes.specs.Meaning.{done, run, made, value_at, truth_of}
 
 -- the machine whose signals are plans
 unfoldable pub plans : Machine Plan
-plans = record { the_scan = scan; around = near; the_larger = larger_of_lem; the_smaller = smaller_of_lem }
+plans = record { the_scan = scan; around = near; the_larger = larger_plan; the_smaller = smaller_plan }
 
 -- what a machine makes of a plan
 unfoldable pub fold : {S : Type 0} → Machine S → Plan → S
 fold M scan = M.the_scan
 fold M (near p bs e) = M.around p bs (fold M e)
-fold M (larger_of_lem a b) = M.the_larger (fold M a) (fold M b)
-fold M (smaller_of_lem a b) = M.the_smaller (fold M a) (fold M b)
+fold M (larger_plan a b) = M.the_larger (fold M a) (fold M b)
+fold M (smaller_plan a b) = M.the_smaller (fold M a) (fold M b)
 
 -- the plan that a recipe's steps leave
 unfoldable pub plan_of : List ℕ → Plan
@@ -80,8 +80,8 @@ module _ {S : Type 0} (M : Machine S) where
   act-fold (Close B) st = replaced-fold _ (λ e. eroded plans B (dilated plans B e)) (λ e. refl) st
   act-fold (Rank k B) st = replaced-fold _ (ranked_by plans k B) (λ e. refl) st
   act-fold (Median B) st = replaced-fold _ (ranked_by plans _ B) (λ e. refl) st
-  act-fold Larger st = joined-fold _ larger_of_lem (λ d e. refl) st
-  act-fold Smaller st = joined-fold _ smaller_of_lem (λ d e. refl) st
+  act-fold Larger st = joined-fold _ larger_plan (λ d e. refl) st
+  act-fold Smaller st = joined-fold _ smaller_plan (λ d e. refl) st
 
   done-fold : (d : Decoded) (st : List Plan) → done M d (map (fold M) st) ≡ folds M (done plans d st)
   unfolding done folds
@@ -118,8 +118,8 @@ fold-signals : {A : Type 0} (O : Order A) (g : ℤ → A) (e : Plan) → fold (s
 unfolding fold signals meaning
 fold-signals O g scan = refl
 fold-signals {A} O g (near p bs e) = ap {B = ℤ → A} (λ s x. pick O p (s x) (λ b. s (x +ℤ b)) bs) (fold-signals O g e)
-fold-signals {A} O g (larger_of_lem a b) = ap₂ {C = ℤ → A} (λ s t x. larger O (s x) (t x)) (fold-signals O g a) (fold-signals O g b)
-fold-signals {A} O g (smaller_of_lem a b) = ap₂ {C = ℤ → A} (λ s t x. smaller O (s x) (t x)) (fold-signals O g a) (fold-signals O g b)
+fold-signals {A} O g (larger_plan a b) = ap₂ {C = ℤ → A} (λ s t x. larger O (s x) (t x)) (fold-signals O g a) (fold-signals O g b)
+fold-signals {A} O g (smaller_plan a b) = ap₂ {C = ℤ → A} (λ s t x. smaller O (s x) (t x)) (fold-signals O g a) (fold-signals O g b)
 
 -- what a recipe's steps leave on endless signals is the meaning of its plan
 pub signal_plan : {A : Type 0} (O : Order A) (g : ℤ → A) (r : List ℕ) → made (signals O g) r ≡ meaning O (plan_of r) g

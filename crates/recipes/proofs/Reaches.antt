@@ -13,7 +13,7 @@ use lib.Signed.{le_z, mag}
 use borrow.Author.Tests.{leb-true, lt-ltb}
 use Rattle.limits.specs.Limits.{reach, most_signals}
 use Rattle.theory.specs.Signals.{window, offsets}
-use Rattle.theory.proofs.Plans.{Plan, scan, near, larger_of_lem, smaller_of_lem, lo, hi}
+use Rattle.theory.proofs.Plans.{Plan, scan, near, larger_plan, smaller_plan, lo, hi}
 use Rattle.theory.proofs.Tests.{and_left, and_right}
 use Rattle.theory.proofs.Offsets.{leftmost_neg, rightmost_neg}
 use Rattle.recipes.specs.declared.Reach.{Reach}
@@ -38,8 +38,8 @@ pub fold-reaches : (e : Plan) → fold reaches e ≡ record { lo = lo e; hi = hi
 unfolding fold reaches both_reach lo hi
 fold-reaches scan = refl
 fold-reaches (near p bs e) = rw (fold-reaches e) (reach_by (+ℤ_comm (lo e) _) (+ℤ_comm (hi e) _))
-fold-reaches (larger_of_lem a b) = ap₂ both_reach (fold-reaches a) (fold-reaches b)
-fold-reaches (smaller_of_lem a b) = ap₂ both_reach (fold-reaches a) (fold-reaches b)
+fold-reaches (larger_plan a b) = ap₂ both_reach (fold-reaches a) (fold-reaches b)
+fold-reaches (smaller_plan a b) = ap₂ both_reach (fold-reaches a) (fold-reaches b)
 
 -- ---- of a step: the column
 

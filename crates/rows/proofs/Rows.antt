@@ -13,7 +13,7 @@ use Rattle.theory.specs.Lists.{tab}
 use Rattle.theory.specs.Orders.{counts, larger, smaller}
 use Rattle.theory.specs.Ranks.{Pick}
 use Rattle.theory.specs.Signals.{window, between}
-use Rattle.theory.proofs.Plans.{Plan, scan, near, larger_of_lem, smaller_of_lem, meaning}
+use Rattle.theory.proofs.Plans.{Plan, scan, near, larger_plan, smaller_plan, meaning}
 use Rattle.theory.proofs.Lists.{length-tab, get_or-tab, tab_cong}
 use Rattle.theory.proofs.Ranks.{pick_agree}
 use Rattle.theory.proofs.Differences.{sub_low, sub_high, sub_same, sub_add, pos_add}
@@ -34,8 +34,8 @@ difference (negsuc n) = (0, suc n, sub_low 0 (suc n) (omega arith) ∙ ap negsuc
 
 -- the larger or the smaller of two plans
 abbrev pub pair_of : Bool → Plan → Plan → Plan
-pair_of true a b = larger_of_lem a b
-pair_of false a b = smaller_of_lem a b
+pair_of true a b = larger_plan a b
+pair_of false a b = smaller_plan a b
 
 module _ (l r : ℕ) (s : List ℕ) where
   pub length_row : (e : Plan) → length (row_of e l r s) ≡ length s + margin

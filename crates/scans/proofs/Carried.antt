@@ -12,7 +12,7 @@ use lib.IntN.{ℤ, pos, sub_ℕ, ◌+ℤ◌, +ℤ_assoc}
 use lib.ListN.{get_or}
 use Rattle.theory.specs.Lists.{first, tab}
 use Rattle.theory.specs.Signals.{Window, between, wide, offset, seen}
-use Rattle.theory.proofs.Lists.{get_d_beyond, length-tab, get_or-tab, tab_cong, first_none}
+use Rattle.theory.proofs.Lists.{get_or_beyond, length-tab, get_or-tab, tab_cong, first_none}
 use Rattle.theory.proofs.Differences.{side, sub_high, sub_add, pos_add}
 use Rattle.theory.proofs.Signals.{Fair, between_left, seen_at}
 use Rattle.windows.proofs.Columns.{position_found}
@@ -51,7 +51,7 @@ module _ (W : Window) (fair : Fair W) {A : Type 0} (g : ℤ → A) where
           let last : k ≡ wide W = omega (arith, fair.column_lt i b) in
           let none : found k ≡ wide W = first_none _ (wide W) (λ j l. ne_eqb (W.column j) k (λ e. omega (arith, fair.column_lt j l))) in
           let far : sub_ℕ k W.far ≡ pos (suc W.far) = sub_high k W.far (omega arith) ∙ ap pos (omega arith) in
-          rw (none, get_d_beyond (tab (wide W) (seen W g x)) (wide W) arriving (omega (arith, length-tab (wide W) (seen W g x))))
+          rw (none, get_or_beyond (tab (wide W) (seen W g x)) (wide W) arriving (omega (arith, length-tab (wide W) (seen W g x))))
           (ap (λ (d : ℤ). g (x +ℤ d)) (sym far) ∙ sym (seen_next x i))
 
   -- the middle position has what stands at x itself

@@ -1,14 +1,14 @@
 -- Laws of the bytes that reads take: how they stand in the slice, and what several reads take together. Assumes nothing.
-use Rattle.std.proofs.Common.{◌≡◌, ℕ, ◌+◌, ◌-◌, ◌≤◌, List, [], ◌++◌, Option, Some, None, IfSome, refl, sym, ap, ◌∙◌, length, take, drop, arith}
+use Rattle.std.proofs.Common.{◌≡◌, ℕ, ◌+◌, ◌-◌, ◌≤◌, List, ◌++◌, Option, Some, None, sym, ap, ◌∙◌, length, take, drop, arith}
 use Rattle.std.proofs.lemmas.List.{drop-take, take-append-le, length-take-le}
 use Rattle.std.proofs.Math.Seq.{take-add, drop-append_seam}
 use Rattle.std.proofs.lemmas.Grind.{common_steps}
-use Rattle.std.specs.Io.KnownBytes.{Consumes, IsAtEnd, Appends}
+use Rattle.std.specs.Io.KnownBytes.{Consumes, Appends}
 
 -- the bytes that one read more took stand behind those that there were
-pub read-stands : (bytes n m : ℕ) (old part rest : List ℕ) → bytes ≤ length old → n ≤ length part → m ≡ bytes + n
+pub read_stands : (bytes n m : ℕ) (old part rest : List ℕ) → bytes ≤ length old → n ≤ length part → m ≡ bytes + n
     → drop bytes (take m (take bytes old ++ (part ++ rest))) ≡ take n part
-read-stands bytes n m old part rest h k e =
+read_stands bytes n m old part rest h k e =
     let all = take bytes old ++ (part ++ rest) in
     let len : length (take bytes old) ≡ bytes = length-take-le bytes old h in
     ap (λ (i : ℕ). drop bytes (take i all)) e
@@ -17,9 +17,9 @@ read-stands bytes n m old part rest h k e =
     ∙ take-append-le n part rest k
 
 -- the bytes that there were, and those that one read more took
-pub read-joins : (bytes n : ℕ) (old new : List ℕ) → bytes ≤ n → take bytes new ≡ take bytes old
+pub read_joins : (bytes n : ℕ) (old new : List ℕ) → bytes ≤ n → take bytes new ≡ take bytes old
     → take bytes old ++ drop bytes (take n new) ≡ take n new
-read-joins bytes n old new h e =
+read_joins bytes n old new h e =
     let k = n - bytes in
     let all : n ≡ bytes + k = omega arith in
     ap (λ (xs : List ℕ). xs ++ drop bytes (take n new)) (sym e)
@@ -29,31 +29,15 @@ read-joins bytes n old new h e =
     ∙ ap (λ (i : ℕ). take i new) (sym all)
 
 -- what two reads take, one after the other
-pub takes-both : (a b c : Option (List ℕ)) (xs ys : List ℕ) → Consumes a b xs → Consumes b c ys → Consumes a c (xs ++ ys)
-takes-both None b c xs ys p q = tt
-takes-both (Some f) None c xs ys p q = absurd p
-takes-both (Some f) (Some g) None xs ys p q = absurd q
-takes-both (Some f) (Some g) (Some h) xs ys p q = grind (arith, common_steps)
-
--- a read of nothing
-pub takes-nothing : (a : Option (List ℕ)) → Consumes a a []
-takes-nothing None = tt
-takes-nothing (Some f) = refl
-
--- where nothing is left, all of it was taken
-pub takes-all : (a b : Option (List ℕ)) (xs : List ℕ) → Consumes a b xs → IsAtEnd b → IfSome a (λ f. f ≡ xs)
-takes-all None b xs p q = tt
-takes-all (Some f) None xs p q = absurd p
-takes-all (Some f) (Some g) xs p q = grind (arith, common_steps)
-
--- a writer to which nothing is written
-pub grows-by-nothing : (a : Option (List ℕ)) → Appends a a []
-grows-by-nothing None = tt
-grows-by-nothing (Some f) = grind (arith, common_steps)
+pub takes_both : (a b c : Option (List ℕ)) (xs ys : List ℕ) → Consumes a b xs → Consumes b c ys → Consumes a c (xs ++ ys)
+takes_both None b c xs ys p q = tt
+takes_both (Some f) None c xs ys p q = absurd p
+takes_both (Some f) (Some g) None xs ys p q = absurd q
+takes_both (Some f) (Some g) (Some h) xs ys p q = grind (arith, common_steps)
 
 -- what two writes append, one after the other
-pub grows-twice : (a b c : Option (List ℕ)) (xs ys : List ℕ) → Appends a b xs → Appends b c ys → Appends a c (xs ++ ys)
-grows-twice None b c xs ys p q = tt
-grows-twice (Some f) None c xs ys p q = absurd p
-grows-twice (Some f) (Some g) None xs ys p q = absurd q
-grows-twice (Some f) (Some g) (Some h) xs ys p q = grind (arith, common_steps)
+pub grows_twice : (a b c : Option (List ℕ)) (xs ys : List ℕ) → Appends a b xs → Appends b c ys → Appends a c (xs ++ ys)
+grows_twice None b c xs ys p q = tt
+grows_twice (Some f) None c xs ys p q = absurd p
+grows_twice (Some f) (Some g) None xs ys p q = absurd q
+grows_twice (Some f) (Some g) (Some h) xs ys p q = grind (arith, common_steps)

@@ -1,7 +1,7 @@
 -- Only private contracts cite this: a place in a file.
-use Rattle.std.specs.Prelude.{ℕ, ◌^◌, Option, Some, None, cond, nat_lt}
+use Rattle.std.specs.Prelude.{ℕ, ℤ, pos, negsuc}
 
--- the place that the system tells, a number of 63 bits; 0 for an answer that is none
-abbrev pub place_of : Option ℕ → ℕ
-place_of (Some place) = cond (nat_lt place (2 ^ 63)) place 0
-place_of None = 0
+-- the place that the system tells; 0 for an answer below 0, which is none
+abbrev pub place_of : ℤ → ℕ
+place_of (pos place) = place
+place_of (negsuc k) = 0

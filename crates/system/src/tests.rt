@@ -116,7 +116,9 @@ fn finds_the_place_that_is_told(rt: HostRuntime) {
     );
     assert_eq!(rt; told_place(b""), None);
     assert_eq!(rt; told_place(b"pos:\t\n"), None);
-    assert_eq!(rt; told_place(b"pos:\t-1\n"), None);
+    assert_eq!(rt; told_place(b"pos:\t-1\n"), Some(-1));
+    assert_eq!(rt; told_place(b"pos:\t9223372036854775808\n"), None);
+    assert_eq!(rt; told_place(b"pos:\t33033"), None);
     assert_eq!(rt; told_place(b"flags:\t0\npos:\t1\n"), None);
     assert_eq!(rt; told_place(b"pos:\t1\xff\n"), None);
 }

@@ -156,6 +156,7 @@ fn check_bytes(lent: usize) -> Checked
 }
 
 // What table to form refuses, with so many elements lent for terms: 13, 12, 6.
+#[tactic(auto, unfolding(crate::specs::Tables::table_to_form_checked, crate::specs::Tables::bytes_checked, crate::specs::Tables::positive_checked, theory::specs::Lists::any_below))]
 fn admit_table(table: &[u8], lent: usize) -> Checked
     ensures { result ≡ table_to_form_checked table.now lent }
 {

@@ -164,10 +164,10 @@ module _ {A : Type 0} where
   get_or_inside (x ∷ xs) (suc i) d e h = get_or_inside xs i d e (le_of_suc-le-suc h)
 
   -- beyond it the default is
-  pub get_d_beyond : (l : List A) (i : ℕ) (d : A) → length l ≤ i → get_or l i d ≡ d
-  get_d_beyond [] i d h = refl
-  get_d_beyond (x ∷ xs) zero d h = absurd (not-suc-le-zero h)
-  get_d_beyond (x ∷ xs) (suc i) d h = get_d_beyond xs i d (le_of_suc-le-suc h)
+  pub get_or_beyond : (l : List A) (i : ℕ) (d : A) → length l ≤ i → get_or l i d ≡ d
+  get_or_beyond [] i d h = refl
+  get_or_beyond (x ∷ xs) zero d h = absurd (not-suc-le-zero h)
+  get_or_beyond (x ∷ xs) (suc i) d h = get_or_beyond xs i d (le_of_suc-le-suc h)
 
   -- what is so of each element and of the default is so at every index
   pub get_or_from : (P : A → Type 0) (l : List A) (i : ℕ) (d : A) → P d → ((a : A) → Memᴰ a l → P a) → P (get_or l i d)

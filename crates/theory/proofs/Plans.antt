@@ -21,15 +21,15 @@ use Rattle.theory.proofs.Ints.{le_z_add}
 pub data Plan : Type 0 where
   scan : Plan
   near : Pick → List ℤ → Plan → Plan
-  larger_of_lem : Plan → Plan → Plan
-  smaller_of_lem : Plan → Plan → Plan
+  larger_plan : Plan → Plan → Plan
+  smaller_plan : Plan → Plan → Plan
 
 -- the value at x, for the endless signal g
 unfoldable pub meaning : {A : Type 0} → Order A → Plan → (ℤ → A) → ℤ → A
 meaning O scan g x = g x
 meaning O (near p bs e) g x = pick O p (meaning O e g x) (λ b. meaning O e g (x +ℤ b)) bs
-meaning O (larger_of_lem a b) g x = larger O (meaning O a g x) (meaning O b g x)
-meaning O (smaller_of_lem a b) g x = smaller O (meaning O a g x) (meaning O b g x)
+meaning O (larger_plan a b) g x = larger O (meaning O a g x) (meaning O b g x)
+meaning O (smaller_plan a b) g x = smaller O (meaning O a g x) (meaning O b g x)
 
 -- ---- the reach
 
@@ -37,15 +37,15 @@ meaning O (smaller_of_lem a b) g x = smaller O (meaning O a g x) (meaning O b g 
 unfoldable pub lo : Plan → ℤ
 lo scan = pos 0
 lo (near p bs e) = leftmost bs +ℤ lo e
-lo (larger_of_lem a b) = smaller le_z (lo a) (lo b)
-lo (smaller_of_lem a b) = smaller le_z (lo a) (lo b)
+lo (larger_plan a b) = smaller le_z (lo a) (lo b)
+lo (smaller_plan a b) = smaller le_z (lo a) (lo b)
 
 -- the greatest offset that a plan reads
 unfoldable pub hi : Plan → ℤ
 hi scan = pos 0
 hi (near p bs e) = rightmost bs +ℤ hi e
-hi (larger_of_lem a b) = larger le_z (hi a) (hi b)
-hi (smaller_of_lem a b) = larger le_z (hi a) (hi b)
+hi (larger_plan a b) = larger le_z (hi a) (hi b)
+hi (smaller_plan a b) = larger le_z (hi a) (hi b)
 
 -- ---- the Boolean function
 
@@ -62,8 +62,8 @@ module _ {A B : Type 0} (O : Lawful A) (P : Order B) (anti : Strict P) (h : A �
   keeps (near p bs e) g x =
       keeps_pick O P anti h mono p (meaning O.leq e g x) (λ b. meaning O.leq e g (x +ℤ b)) bs
       ∙ ap₂ (λ (d : B) (f : ℤ → B). pick P p d f bs) (keeps e g x) (fun_ext (λ b. keeps e g (x +ℤ b)))
-  keeps (larger_of_lem a b) g x = keeps_larger O P anti h mono _ _ ∙ ap₂ (larger P) (keeps a g x) (keeps b g x)
-  keeps (smaller_of_lem a b) g x = keeps_smaller O P anti h mono _ _ ∙ ap₂ (smaller P) (keeps a g x) (keeps b g x)
+  keeps (larger_plan a b) g x = keeps_larger O P anti h mono _ _ ∙ ap₂ (larger P) (keeps a g x) (keeps b g x)
+  keeps (smaller_plan a b) g x = keeps_smaller O P anti h mono _ _ ∙ ap₂ (smaller P) (keeps a g x) (keeps b g x)
 
 -- ---- a plan moves with its signal
 
@@ -73,8 +73,8 @@ translate O scan g y x = refl
 translate {A} O (near p bs e) g y x =
     ap₂ (λ (d : A) (f : ℤ → A). pick O p d f bs) (translate O e g y x)
     (fun_ext (λ b. ap (meaning O e g) (+ℤ_assoc y x b) ∙ translate O e g y (x +ℤ b)))
-translate O (larger_of_lem a b) g y x = ap₂ (larger O) (translate O a g y x) (translate O b g y x)
-translate O (smaller_of_lem a b) g y x = ap₂ (smaller O) (translate O a g y x) (translate O b g y x)
+translate O (larger_plan a b) g y x = ap₂ (larger O) (translate O a g y x) (translate O b g y x)
+translate O (smaller_plan a b) g y x = ap₂ (smaller O) (translate O a g y x) (translate O b g y x)
 
 -- ---- a plan reads no further than its reach
 
@@ -107,11 +107,11 @@ local O (near p (b ∷ bs) e) g g' x h =
       to_hi = le_z_add c (rightmost (b ∷ bs)) d (hi e) (le-largest ints_lawful (pos 0) (λ z. z) (b ∷ bs) m) i.to_hi;
     })
     ∙ sym (ap g' (+ℤ_assoc x c d))))
-local O (larger_of_lem a b) g g' x h =
+local O (larger_plan a b) g g' x h =
     ap₂ (larger O)
     (local O a g g' x (λ d i. h d (wider (smaller_left ints_lawful (lo a) (lo b)) (larger_left ints_lawful (hi a) (hi b)) i)))
     (local O b g g' x (λ d i. h d (wider (smaller_right ints_lawful (lo a) (lo b)) (larger_right ints_lawful (hi a) (hi b)) i)))
-local O (smaller_of_lem a b) g g' x h =
+local O (smaller_plan a b) g g' x h =
     ap₂ (smaller O)
     (local O a g g' x (λ d i. h d (wider (smaller_left ints_lawful (lo a) (lo b)) (larger_left ints_lawful (hi a) (hi b)) i)))
     (local O b g g' x (λ d i. h d (wider (smaller_right ints_lawful (lo a) (lo b)) (larger_right ints_lawful (hi a) (hi b)) i)))
@@ -124,8 +124,8 @@ pub meaning_from : {A : Type 0} (O : Order A) (P : A → Type 0) (e : Plan) (g :
 unfolding meaning
 meaning_from O P scan g h x = h x
 meaning_from O P (near p bs e) g h x = pick_from O P p _ _ bs (meaning_from O P e g h x) (λ b m. meaning_from O P e g h (x +ℤ b))
-meaning_from O P (larger_of_lem a b) g h x = larger_from O P _ _ (meaning_from O P a g h x) (meaning_from O P b g h x)
-meaning_from O P (smaller_of_lem a b) g h x = smaller_from O P _ _ (meaning_from O P a g h x) (meaning_from O P b g h x)
+meaning_from O P (larger_plan a b) g h x = larger_from O P _ _ (meaning_from O P a g h x) (meaning_from O P b g h x)
+meaning_from O P (smaller_plan a b) g h x = smaller_from O P _ _ (meaning_from O P a g h x) (meaning_from O P b g h x)
 
 -- on a constant signal a plan is that constant
 pub constant : {A : Type 0} (O : Order A) (e : Plan) (c : A) (x : ℤ) → meaning O e (λ y. c) x ≡ c

@@ -12,7 +12,7 @@ use lib.Signed.{le_z}
 use borrow.Author.Tests.{leb-true}
 use Rattle.theory.specs.Signals.{Ends, held, zeros, between, endless, Window, wide, offset, seen, window}
 use Rattle.theory.proofs.Tests.{not_both}
-use Rattle.theory.proofs.Lists.{get_or_inside, get_d_beyond}
+use Rattle.theory.proofs.Lists.{get_or_inside, get_or_beyond}
 use Rattle.theory.proofs.Differences.{sub_low, sub_high, sub_cancel, side, pos_add}
 use Rattle.theory.proofs.Plans.{Inside}
 
@@ -30,7 +30,7 @@ module _ {A : Type 0} (l r : A) (s : List A) where
 
   pub between_right : (a c : ℕ) → c + length s ≤ a → between l r s (sub_ℕ a c) ≡ r
   unfolding between
-  between_right a c h = rw (sub_high a c (omega arith)) (get_d_beyond s (a - c) r (omega arith))
+  between_right a c h = rw (sub_high a c (omega arith)) (get_or_beyond s (a - c) r (omega arith))
 
   -- what is so of l, of r and of each element is so everywhere
   pub between_from : (P : A → Type 0) (z : A) → P l → P r → ((i : ℕ) → P (get_or s i z)) → (y : ℤ) → P (between l r s y)
@@ -40,7 +40,7 @@ module _ {A : Type 0} (l r : A) (s : List A) where
     where
       go : (n < length s) ⊎ (length s ≤ n) → P (get_or s n r)
       go (inl k) = subst P (get_or_inside s n z r k) (h n)
-      go (inr k) = subst P (sym (get_d_beyond s n r k)) q
+      go (inr k) = subst P (sym (get_or_beyond s n r k)) q
 
 -- ---- a list with its ends
 

@@ -69,18 +69,18 @@ stands_in B k h e = rw (position_is k h) at e
 
 module _ (B : ℕ) where
   -- whether it stands in column k
-  in-column : ℕ → Bool
-  in-column k = has B (position_in k)
+  in_column : ℕ → Bool
+  in_column k = has B (position_in k)
 
   -- the least offset is that of the least column
   pub least_there : least_column B < width → leftmost (offsets window B) ≡ sub_ℕ (least_column B) reach
-  unfolding wide window in-column
+  unfolding wide window in_column
   least_there h =
       leftmost_column window window_fair B (least_column B) h
-      (stands_in B (least_column B) h (first_passes in-column width h))
-      (λ j l. stands_in B j (omega arith) (first_before in-column width j l))
+      (stands_in B (least_column B) h (first_passes in_column width h))
+      (λ j l. stands_in B j (omega arith) (first_before in_column width j l))
 
   -- where there is none, the set has no offsets
   pub least_none : width ≤ least_column B → offsets window B ≡ []
-  unfolding wide window in-column
-  least_none h = no_column window window_fair B (λ k l. stands_in B k l (first_before in-column width k (omega arith)))
+  unfolding wide window in_column
+  least_none h = no_column window window_fair B (λ k l. stands_in B k l (first_before in_column width k (omega arith)))

@@ -12,8 +12,8 @@ unfolding read_checked
 returns-in-Refused c =
     rw (sym c.check_file-checked.ensures ∙ c.in-Refused.is)
 
-pub count_samples-samples-requires-clause-file_value : goal.count_samples-samples-requires-clause-file_value
-count_samples-samples-requires-clause-file_value c =
+pub count_samples-samples-requires-clause-laid_out : goal.count_samples-samples-requires-clause-laid_out
+count_samples-samples-requires-clause-laid_out c =
     let family = c.args.family in
     let f = c.args.file.now in
     laid_well family f (fine_file family f (sym c.check_file-checked.ensures ∙ c.in_default.is)).laid

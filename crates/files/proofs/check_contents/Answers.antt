@@ -14,7 +14,7 @@ use Rattle.files.proofs.check_contents.Goals.{Start}
 
 -- the file is laid out well
 laid : (start : Start) → Laid start.args.family start.args.file.now
-laid start = well_laid start.args.family start.args.file.now start.requires.file_value
+laid start = well_laid start.args.family start.args.file.now start.requires.laid_out
 
 pub terms_back-requires : goal.terms_back-requires
 terms_back-requires c = (laid (goal.at.terms_back-requires c).Start).long_enough

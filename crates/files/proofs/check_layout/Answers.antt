@@ -26,9 +26,9 @@ points_at_terms-requires c = long (goal.at.points_at_terms-requires c).Then-is_s
 pub overflow_sub-end-then-is_sized-2 : goal.overflow_sub-end-then-is_sized-2
 overflow_sub-end-then-is_sized-2 c = omega (arith, long (goal.at.overflow_sub-end-then-is_sized-2 c).Then-is_sized)
 
-pub points_at_samples-requires-clause-trailer_bytes_in_bounds : goal.points_at_samples-requires-clause-trailer_bytes_in_bounds
-points_at_samples-requires-clause-trailer_bytes_in_bounds c =
-    long (goal.at.points_at_samples-requires-clause-trailer_bytes_in_bounds c).Then-is_sized
+pub points_at_samples-requires-clause-has_trailer : goal.points_at_samples-requires-clause-has_trailer
+points_at_samples-requires-clause-has_trailer c =
+    long (goal.at.points_at_samples-requires-clause-has_trailer c).Then-is_sized
 
 pub overflow_sub-end-then-is_sized-3 : goal.overflow_sub-end-then-is_sized-3
 overflow_sub-end-then-is_sized-3 c = omega (arith, long (goal.at.overflow_sub-end-then-is_sized-3 c).Then-is_sized)

@@ -13,13 +13,13 @@ pub put_words-requires-2 : goal.put_words-requires-2
 unfolding file_length terms_distance
 put_words-requires-2 c = omega arith
 
-pub put_trailer-requires-clause-trailer_bytes_in_bounds : goal.put_trailer-requires-clause-trailer_bytes_in_bounds
+pub put_trailer-requires-clause-has_trailer : goal.put_trailer-requires-clause-has_trailer
 unfolding file_length terms_distance
-put_trailer-requires-clause-trailer_bytes_in_bounds c = omega arith
+put_trailer-requires-clause-has_trailer c = omega arith
 
-pub put_trailer-requires-clause-terms_le_most_terms : goal.put_trailer-requires-clause-terms_le_most_terms
+pub put_trailer-requires-clause-bounded : goal.put_trailer-requires-clause-bounded
 unfolding file_length terms_distance
-put_trailer-requires-clause-terms_le_most_terms c = omega arith
+put_trailer-requires-clause-bounded c = omega arith
 
 pub returns : goal.returns
 unfolding counts_file
@@ -28,4 +28,4 @@ returns c =
     let a = c.args in
     let scan = a.scan.now in
     rw (c.put_trailer.ensures, terms, c.put_words.ensures)
-    (file_stored counts_family a.out.now (in_words scan) (length scan) a.terms.now (length-in_words scan) c.requires.out_len)
+    (file_stored counts_family a.out.now (in_words scan) (length scan) a.terms.now (length-in_words scan) c.requires.room)

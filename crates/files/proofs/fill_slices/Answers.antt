@@ -23,35 +23,35 @@ pub count_samples-samples_in-requires-clause-usable : goal.count_samples-samples
 count_samples-samples_in-requires-clause-usable c =
     counts_usable
 
-pub count_samples-samples_in-requires-clause-file_value : goal.count_samples-samples_in-requires-clause-file_value
-count_samples-samples_in-requires-clause-file_value c =
-    laid_well counts_family c.args.file.now (laid (goal.at.count_samples-samples_in-requires-clause-file_value c).Start)
+pub count_samples-samples_in-requires-clause-laid_out : goal.count_samples-samples_in-requires-clause-laid_out
+count_samples-samples_in-requires-clause-laid_out c =
+    laid_well counts_family c.args.file.now (laid (goal.at.count_samples-samples_in-requires-clause-laid_out c).Start)
 
 pub count_terms-terms_in-requires : goal.count_terms-terms_in-requires
 count_terms-terms_in-requires c = (laid (goal.at.count_terms-terms_in-requires c).Start).long_enough
 
-pub copy_words-requires-clause-n_in_bounds : goal.copy_words-requires-clause-n_in_bounds
+pub copy_words-requires-clause-fits_file : goal.copy_words-requires-clause-fits_file
 unfolding file_length terms_distance
-copy_words-requires-clause-n_in_bounds c = omega (arith, sizes (goal.at.copy_words-requires-clause-n_in_bounds c).Start)
+copy_words-requires-clause-fits_file c = omega (arith, sizes (goal.at.copy_words-requires-clause-fits_file c).Start)
 
-pub copy_words-requires-clause-n_in_bounds_2 : goal.copy_words-requires-clause-n_in_bounds_2
+pub copy_words-requires-clause-fits_slice : goal.copy_words-requires-clause-fits_slice
 unfolding file_length terms_distance
-copy_words-requires-clause-n_in_bounds_2 c = omega (arith, sizes (goal.at.copy_words-requires-clause-n_in_bounds_2 c).Start)
+copy_words-requires-clause-fits_slice c = omega (arith, sizes (goal.at.copy_words-requires-clause-fits_slice c).Start)
 
 pub overflow_mul-samples_in : goal.overflow_mul-samples_in
 unfolding file_length
 overflow_mul-samples_in c =
     omega (arith, sizes (goal.at.overflow_mul-samples_in c).Start)
 
-pub copy_words-requires-2-clause-n_in_bounds : goal.copy_words-requires-2-clause-n_in_bounds
+pub copy_words-requires-2-clause-fits_file : goal.copy_words-requires-2-clause-fits_file
 unfolding file_length terms_distance
-copy_words-requires-2-clause-n_in_bounds c =
-    omega (arith, sizes (goal.at.copy_words-requires-2-clause-n_in_bounds c).Start)
+copy_words-requires-2-clause-fits_file c =
+    omega (arith, sizes (goal.at.copy_words-requires-2-clause-fits_file c).Start)
 
-pub copy_words-requires-2-clause-n_in_bounds_2 : goal.copy_words-requires-2-clause-n_in_bounds_2
+pub copy_words-requires-2-clause-fits_slice : goal.copy_words-requires-2-clause-fits_slice
 unfolding file_length terms_distance
-copy_words-requires-2-clause-n_in_bounds_2 c =
-    omega (arith, sizes (goal.at.copy_words-requires-2-clause-n_in_bounds_2 c).Start)
+copy_words-requires-2-clause-fits_slice c =
+    omega (arith, sizes (goal.at.copy_words-requires-2-clause-fits_slice c).Start)
 
 pub returns : goal.returns
 unfolding file_terms

@@ -17,14 +17,14 @@ fine c = sym c.admit_write-checked.ensures ∙ c.in_default.is
 pub admit_write-checked-requires : goal.admit_write-checked-requires
 admit_write-checked-requires c = counts_usable
 
-pub fill_file-requires-clause-scan_len_bound : goal.fill_file-requires-clause-scan_len_bound
-fill_file-requires-clause-scan_len_bound c = let a = c.args in
+pub fill_file-requires-clause-bounded : goal.fill_file-requires-clause-bounded
+fill_file-requires-clause-bounded c = let a = c.args in
     let terms = a.terms.now in
-    let w = fine_write counts_family terms (length a.scan.now) (length a.out.now) (fine (goal.at.fill_file-requires-clause-scan_len_bound c).In_default) in
+    let w = fine_write counts_family terms (length a.scan.now) (length a.out.now) (fine (goal.at.fill_file-requires-clause-bounded c).In_default) in
     (w.short, fine_few width terms w.sound)
 
-pub fill_file-requires-clause-out_len : goal.fill_file-requires-clause-out_len
-fill_file-requires-clause-out_len c = let a = c.args in
+pub fill_file-requires-clause-room : goal.fill_file-requires-clause-room
+fill_file-requires-clause-room c = let a = c.args in
     let terms = a.terms.now in
-    let w = fine_write counts_family terms (length a.scan.now) (length a.out.now) (fine (goal.at.fill_file-requires-clause-out_len c).In_default) in
+    let w = fine_write counts_family terms (length a.scan.now) (length a.out.now) (fine (goal.at.fill_file-requires-clause-room c).In_default) in
     w.fits

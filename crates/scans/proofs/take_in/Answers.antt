@@ -1,7 +1,7 @@
 use Rattle.std.proofs.Common.{rules, ℕ, ◌+◌, arith, ◌≡◌, sym, ap, ◌∙◌, length, get_or}
 use Rattle.limits.specs.Limits.{width}
 use Rattle.theory.specs.Signals.{wide, window}
-use Rattle.theory.proofs.Lists.{get_or_inside, get_d_beyond}
+use Rattle.theory.proofs.Lists.{get_or_inside, get_or_beyond}
 use Rattle.theory.proofs.Fills.{fill_none, fill_more}
 use Rattle.windows.specs.Columns.{position_in}
 use Rattle.scans.specs.Private.{moved_on}
@@ -29,7 +29,7 @@ loop-i-preserved c =
     let value : c.if-from-lt-WIDTH.seen ≡ get_or near from arriving =
     elim c.if-from-lt-WIDTH.branch [
       | then-from-lt-WIDTH w ↦ w.seen-is ∙ get_or_inside near from 0 arriving (omega (arith, w.if-from-lt-WIDTH.true))
-      | else-from-lt-WIDTH w ↦ w.seen-is ∙ sym (get_d_beyond near from arriving (omega (arith, w.if-from-lt-WIDTH.false)))
+      | else-from-lt-WIDTH w ↦ w.seen-is ∙ sym (get_or_beyond near from arriving (omega (arith, w.if-from-lt-WIDTH.false)))
     ] in
     fill_more c.loop-i.invariant (omega arith) (value ∙ ap (λ (k : ℕ). get_or near k arriving) is)
 

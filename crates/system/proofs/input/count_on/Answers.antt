@@ -1,6 +1,6 @@
 use Rattle.std.proofs.Common.{arith, ◌≤◌, ◌++◌, length, length-append, take}
 use Rattle.std.proofs.lemmas.List.{length-take-le}
-use Rattle.system.proofs.Bytes.{takes-both}
+use Rattle.system.proofs.Bytes.{takes_both}
 use Rattle.system.proofs.input.count_on.Goals as goal
 
 pub loop-preserved : goal.loop-preserved
@@ -15,7 +15,7 @@ loop-preserved g c =
       few = omega arith;
       counted = (
         was.counted.0 ++ take n input,
-        takes-both _ _ _ _ _ was.counted.1 more.taken,
+        takes_both _ _ _ _ _ was.counted.1 more.taken,
         omega (arith, was.counted.2, length-append was.counted.0 (take n input), length-take-le n input within),
       );
       ended = λ o e. more.ended o e (omega arith);

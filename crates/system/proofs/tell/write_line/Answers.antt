@@ -1,7 +1,7 @@
 use Rattle.std.proofs.Common.{arith, ◌≡◌, ◌-◌, length, take, drop}
 use Rattle.std.proofs.lemmas.List.{take_rest}
 use Rattle.std.proofs.Math.Seq.{take-add}
-use Rattle.system.proofs.Bytes.{grows-twice}
+use Rattle.system.proofs.Bytes.{grows_twice}
 use Rattle.system.proofs.tell.write_line.Goals as goal
 
 pub loop-done-preserved : goal.loop-done-preserved
@@ -13,5 +13,5 @@ loop-done-preserved g c =
     let wrote = rw rest at c.in-Ok.ensures.bytes in
     record {
       fit = omega (arith, c.in-Ok.ensures.bound);
-      grown = rw (take-add done c.in-Ok.more line) (grows-twice _ _ _ _ _ was.grown wrote);
+      grown = rw (take-add done c.in-Ok.more line) (grows_twice _ _ _ _ _ was.grown wrote);
     }
