@@ -145,6 +145,8 @@ def check_names(folder):
     for byte in range(1, 256):
         if byte not in b"\n/":
             names.append(folder.put(b"x" + bytes([byte]), file_of([16], [byte])))
+    for letter in [*map(chr, range(128, 256)), "\u0394", "\u20ac", "\u6f22", "\ufeff", "\U0001f52c"]:
+        names.append(folder.put(("x" + letter).encode(), file_of([16], [ord(letter) % 2 ** 16])))
     for size in (1, 2, 100, LONGEST_NAME - 1, LONGEST_NAME):
         names.append(folder.put(b"n" * size, file_of([], [size])))
     for name in (b" ", b"  a  b ", b"c\r", b"-", b"--help", b"~", b"$HOME", b"*", b"'", b'"', b"\\", b"\t",

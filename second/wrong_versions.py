@@ -18,7 +18,7 @@ of the program `night` has / between its lines, and 250 unopened is so many line
 40000 is that of one file, of so many bytes. An edit of a definition says "asks" in place of "gives": the
 line that the definition would ask for.
 
-An edit of what the programs ask of the system, that no such call shows, says instead when it goes wrong:
+An edit of `system`, what the programs ask of the system, that no such call shows says instead when it goes wrong:
 
     no call: the input is a pipe that gives a part of the file at a time
 
@@ -116,7 +116,7 @@ def edit_in(path):
         elif key == "new":
             changes.append((file, old, rest[1:]))
     of_code = file.startswith("src/")
-    if [key for key, _ in says] == ["no call"]:
+    if crate == "system" and [key for key, _ in says] == ["no call"]:
         return Edit(name, crate, of_code, changes, [])
     wanted = ["call", "right", "gives" if of_code else "asks"]
     if not says or [key for key, _ in says] != wanted * (len(says) // len(wanted)):

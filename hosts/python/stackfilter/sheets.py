@@ -33,7 +33,7 @@ def night(names: Iterable[Name]) -> str:
     next is opened. A file has one line, in the order of the names: its five counts, or `refused`, the number and the
     place, or `unopened` where it cannot be opened or read, is no regular file (a folder, a pipe, a device), or has a
     0 byte in its name. Of a file that is too long no more is read than tells that, and the place is the length that the
-    system says it has. The last line has fourteen totals: files cleaned, files not opened, files refused under 7, 8, 9,
+    system says it has. A name that is not UTF-8 is opened too, which the program cannot. The last line has fourteen totals: files cleaned, files not opened, files refused under 7, 8, 9,
     15, 16, 17 and 18, samples, changed samples, spikes, the sum of the positive residues, that of the negative ones
     without sign.
 

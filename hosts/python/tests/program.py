@@ -59,11 +59,12 @@ def make_files(rng):
 
 
 def see_bytes():
-    """A name that is not UTF-8, of a file that is there: night opens it, and the program can't."""
+    """A name that is not UTF-8, of a file that is there: night opens it, and the program cannot."""
     with open(b"\xff\xfe\x80", "wb") as opened:
         opened.write(bytes.fromhex("0A000A005A000A000A00 180028003000 1C000000 12000000 0300 5346"))
     ours, theirs = stackfilter.night([b"\xff\xfe\x80"]), printed([b"\xff\xfe\x80"])
-    if (ours.splitlines()[0], theirs.splitlines()[0]) != ("5 1 1 80 0", "unopened"):
+    sheets = "5 1 1 80 0\n1 0 0 0 0 0 0 0 0 5 1 1 80 0\n", "unopened\n0 1 0 0 0 0 0 0 0 0 0 0 0 0\n"
+    if (ours, theirs) != sheets:
         sys.exit(f"of a name that is not UTF-8 night gives {ours!r} and the program {theirs!r}")
 
 
