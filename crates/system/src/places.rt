@@ -25,7 +25,7 @@ fn place(told: i64) -> usize
     if 0 < told { told as usize } else { 0 }
 }
 
-// What the system told std, which makes an error of an answer below 0.
+// What the system told std, which makes an error of -1, and of any other answer below 0 a number of 64 bits.
 fn told(answer: Result<u64>) -> i64 {
     match answer {
         Ok(place) => i64::try_from(place).unwrap_or(NO_PLACE),

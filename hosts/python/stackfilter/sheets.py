@@ -33,9 +33,9 @@ def night(names: Iterable[Name]) -> str:
     next is opened. A file has one line, in the order of the names: its five counts, or `refused`, the number and the
     place, or `unopened` where it cannot be opened or read, is no regular file (a folder, a pipe, a device), or has a
     0 byte in its name. Of a file that is too long no more is read than tells that, and the place is the length that the
-    system says it has. A name that is not UTF-8 is opened too, which the program cannot. The last line has fourteen totals: files cleaned, files not opened, files refused under 7, 8, 9,
-    15, 16, 17 and 18, samples, changed samples, spikes, the sum of the positive residues, that of the negative ones
-    without sign.
+    system says it has. A name that is not UTF-8 is opened too, which the program cannot do. The last line has fourteen
+    totals: files cleaned, files not opened, files refused under 7, 8, 9, 15, 16, 17 and 18, samples, changed samples,
+    spikes, the sum of the positive residues, that of the negative ones without sign.
 
     A refused list of names opens no file and gives one line: `refused 20 250` where there are over 250 names, then
     `refused 19` and the first name, from 1, that is empty or has over 255 bytes.

@@ -19,7 +19,7 @@ const LINE_FEED: u8 = b'\n';
 /// the number and the place; or `unopened`, where it cannot be opened or read, is no regular file (a folder, a
 /// pipe, a device), or has a 0 byte in its name. A file over [`LONGEST_FILE`] is refused under 15 with its whole
 /// length, as the system gives it, and no more is read of it than tells that. A name that is not UTF-8 is opened
-/// too, which the program cannot. The last line is the totals ([`Totals`]).
+/// too, which the program cannot do. The last line is the totals ([`Totals`]).
 ///
 /// A refused list of names opens no file and gives one line: `refused 20 250` where there are over
 /// [`MOST_NAMES`] names, of which only the first 251 are taken; otherwise `refused 19` and the first name,
