@@ -1,5 +1,6 @@
 -- Demand 2 over what cleaning writes, and preset 10 as the median of three samples.
 -- Assumes nothing.
+use Rattle.std.specs.Prelude.{Ok}
 use Prim.Native.Nat.{ℕ, ◌<◌, min, max}
 use native.Mathlib.Omega.{arith}
 use mathlib.Core.Path.{◌≡◌, refl, ap, ◌∙◌}
@@ -21,9 +22,7 @@ use Rattle.theory.proofs.Tests.{which}
 use Rattle.theory.proofs.Lists.{length-tab, get_or-tab}
 use Rattle.theory.proofs.Canon.{valid_terms, sound, sound_valid}
 use Rattle.theory.proofs.Demands.{filtered_value}
-use Rattle.refusals.specs.declared.Checked.TheVariants.{Fine}
-use Rattle.refusals.specs.declared.Answer.TheVariants.{Done}
-use Rattle.refusals.proofs.Checks.{done_fine, or_else_fine}
+use Rattle.refusals.proofs.Checks.{done_fine, and_then_fine}
 use Rattle.forms.specs.Check.{form_checked}
 use Rattle.forms.proofs.Fine.{fine_form}
 use Rattle.presets.specs.Presets.{preset_form}
@@ -31,8 +30,8 @@ use Rattle.presets.proofs.Median.{median}
 use Rattle.scans.specs.Run.{run_checked, Clean}
 use Rattle.claims.specs.Words.{Samples, around, three_at}
 
-module _ (form s : List ℕ) {old new : List ℕ} {n : ℕ} (call : Clean form s old new (Done n)) where
-  clean_fine : run_checked form s (length old) ≡ Fine
+module _ (form s : List ℕ) {old new : List ℕ} {n : ℕ} (call : Clean form s old new (Ok n)) where
+  clean_fine : run_checked form s (length old) ≡ Ok tt
   clean_fine = (done_fine (run_checked form s (length old)) (length s) n call.answer).0
 
   -- each sample is cleaned
@@ -52,7 +51,7 @@ module _ (form s : List ℕ) {old new : List ℕ} {n : ℕ} (call : Clean form s
   pub clean_largest : Samples s → (x : ℕ) → x < length s → get_or new x 0 ≡ value counts width 0 top form (around s x)
   unfolding run_checked
   clean_largest small x l =
-      let ok = fine_form width form (or_else_fine (form_checked width form) _ clean_fine).0 in
+      let ok = fine_form width form (and_then_fine (form_checked width form) _ clean_fine).0 in
       clean_at x l ∙ filtered_value held form s (valid_terms width form ok) small x
 
 -- ---- the median preset

@@ -1,13 +1,13 @@
 -- What users rely on of the night sheet: a sentence and a theorem each, proved by citing. All that is claimed is in specs/ and here.
 -- Assumes nothing.
+use Rattle.std.specs.Prelude.{Err}
+use Rattle.refusals.specs.declared.Refusal.TheVariants.{NameCount}
 use Prim.Native.Nat.{ℕ, ◌≤◌}
 use mathlib.Core.Path.{◌≡◌}
 use mathlib.Core.Bool.{true}
 use mathlib.Core.List.{List, ◌++◌, foldl, flatten}
 use lib.ListN.{length}
 use Rattle.limits.specs.Limits.{most_names}
-use Rattle.refusals.specs.Refusals.{refusal}
-use Rattle.refusals.specs.declared.Checked.TheVariants.{Refused}
 use Rattle.lists.specs.Names.{list_checked}
 use Rattle.lists.specs.Judge.{fresh, judged, is_over, verdict_of}
 use Rattle.lists.proofs.Cuts.{cut_anywhere, over_stays}
@@ -24,8 +24,8 @@ list_cut_anywhere = cut_anywhere
 
 -- Once line 251 has begun the verdict is 20 at 250, and so is that of the text with anything behind it: no more need be read.
 pub long_list_refused : (pieces : List (List ℕ)) (more : List ℕ) → is_over (foldl judged fresh pieces) ≡ true
-    → (verdict_of (foldl judged fresh pieces) ≡ Refused (refusal 20 most_names))
-    × (list_checked (flatten pieces ++ more) ≡ Refused (refusal 20 most_names))
+    → (verdict_of (foldl judged fresh pieces) ≡ Err (NameCount most_names))
+    × (list_checked (flatten pieces ++ more) ≡ Err (NameCount most_names))
 long_list_refused = over_stays
 
 module _ (outcomes : List Outcome) (files : OfFiles outcomes) (few : length outcomes ≤ most_names) where

@@ -1,15 +1,15 @@
 -- The words of the claims that no contract cites.
+use Rattle.files.specs.Files.{sizes}
+use Rattle.std.specs.Prelude.{Ok}
 use Rattle.std.specs.Prelude.{ℕ, ◌≤◌, ◌<◌, ◌≡◌, Bool, pos, negsuc, ◌+ℤ◌, length, get_or}
 use mathlib.Core.List.{List, [], ◌∷◌, map, flat_map}
 use Rattle.limits.specs.Limits.{most_terms, top}
 use Rattle.theory.specs.Lists.{keep}
 use Rattle.theory.specs.Signals.{Ends, held, endless, window, seen, Scan}
-use Rattle.refusals.specs.declared.Answer.TheVariants.{Done}
 use Rattle.tables.specs.Tables.{TableToForm}
 use Rattle.presets.specs.Presets.{Preset}
 use Rattle.recipes.specs.Meaning.{value_at}
 use Rattle.compiler.specs.Compile.{Compile}
-use Rattle.files.specs.declared.ReadAnswer.TheVariants as read
 use Rattle.files.specs.Files.{Read}
 use Rattle.totals.specs.declared.Outcome.{Outcome}
 use Rattle.lines.specs.Lines.{outcome_line}
@@ -33,10 +33,10 @@ Agree ends r r' = (s : List ℕ) → Scan s → (x : ℕ) → x < length s → v
 -- a call wrote n terms to the start of a slice. The two calls that may give any form are asked for at most 126 terms: no form has more, and
 -- that is request 8 of document 02
 pub data FormWritten (terms : List ℕ) (n : ℕ) : Type 0 where
-  by_compile : {r old : List ℕ} → Compile r old terms (Done n) → n ≤ most_terms → FormWritten terms n
-  by_table_to_form : (tb : List ℕ) {old : List ℕ} → TableToForm tb old terms (Done n) → n ≤ most_terms → FormWritten terms n
-  by_preset : (i : ℕ) {old : List ℕ} → Preset i old terms (Done n) → FormWritten terms n
-  by_read : {f samples samples' old : List ℕ} {m : ℕ} → Read f samples samples' old terms (read.Read m n) → FormWritten terms n
+  by_compile : {r old : List ℕ} → Compile r old terms (Ok n) → n ≤ most_terms → FormWritten terms n
+  by_table_to_form : (tb : List ℕ) {old : List ℕ} → TableToForm tb old terms (Ok n) → n ≤ most_terms → FormWritten terms n
+  by_preset : (i : ℕ) {old : List ℕ} → Preset i old terms (Ok n) → FormWritten terms n
+  by_read : {f samples samples' old : List ℕ} {m : ℕ} → Read f samples samples' old terms (Ok (sizes m n)) → FormWritten terms n
 
 -- how many of some values pass a test
 unfoldable pub passing : {X : Type 0} → (X → Bool) → List X → ℕ

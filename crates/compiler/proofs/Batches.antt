@@ -1,6 +1,8 @@
 -- A batch: what is read off an accepted run on the scan that shows its patterns is the recipe's truth table there; the batches one after
 -- the other are the whole table.
 -- Assumes nothing.
+use Rattle.std.specs.Prelude.{Result, Ok}
+use Rattle.refusals.specs.declared.Refusal.{Refusal}
 use Prim.Native.Nat.{ℕ, suc, ◌+◌, ◌-◌, ◌*◌, ◌/◌, ◌%◌, ◌≤◌, ◌<◌}
 use native.Mathlib.Omega.{arith}
 use mathlib.Core.Path.{◌≡◌, sym, ap, ap₂, ◌∙◌}
@@ -22,8 +24,6 @@ use Rattle.theory.proofs.Lists.{length-tab, get_or-tab, tab_cong}
 use Rattle.theory.proofs.Sets.{gather_cong}
 use Rattle.theory.proofs.Fills.{Filled}
 use Rattle.theory.proofs.Signals.{window_fair}
-use Rattle.refusals.specs.declared.Checked.TheVariants.{Fine}
-use Rattle.refusals.specs.declared.Answer.{Answer}
 use Rattle.refusals.proofs.Checks.{written_whole}
 use Rattle.refusals.proofs.Shared.{fine_scan, fine_lent}
 use Rattle.tables.proofs.Bytes.{byte_of, table_cong}
@@ -44,11 +44,11 @@ ran-length : (r s : List ℕ) → length (ran held r s) ≡ length s
 unfolding ran
 ran-length r s = length-tab (length s) _
 
-pub run_fills : (r s old new : List ℕ) (a : Answer) → recipe_checked r ≡ Fine → 0 < length s → length s ≤ most_samples → length old ≡ length s
+pub run_fills : (r s old new : List ℕ) (a : Result ℕ Refusal) → recipe_checked r ≡ Ok tt → 0 < length s → length s ≤ most_samples → length old ≡ length s
     → Run r s old new a → new ≡ ran held r s
 unfolding recipe_run_checked
 run_fills r s old new a fine nonempty short same run =
-    let accepted : recipe_run_checked r s (length old) ≡ Fine =
+    let accepted : recipe_run_checked r s (length old) ≡ Ok tt =
     rw (fine, fine_scan most_samples (length s) nonempty short, fine_lent (length s) (length old) same) in
     run.out ∙ written_whole (ran held r s) old accepted (omega (arith, ran-length r s))
 
@@ -88,7 +88,7 @@ module _ (first n : ℕ) where
   unfolding showing_all window wide
   by_columns = tab_cong n _ _ (λ j l. ap (λ (i : ℕ). bit (has (first + j / width) i)) (position_is (j % width) (omega arith)))
 
-  read_truth : (r : List ℕ) → recipe_checked r ≡ Fine → (v : ℕ) → suc v * width ≤ n → first + v < patterns
+  read_truth : (r : List ℕ) → recipe_checked r ≡ Ok tt → (v : ℕ) → suc v * width ≤ n → first + v < patterns
       → middle_of (ran held r (pattern_scan first n)) v ≡ truth_of r (first + v)
   unfolding middle_of ran wide window
   read_truth r fine v l b =
@@ -100,7 +100,7 @@ module _ (first n : ℕ) where
       ∙ sym (truth_plan r (first + v))
 
 -- what is read off a run on the scan of a batch
-pub batch_read : (r scan old bytes : List ℕ) (first : ℕ) → Batch r scan old bytes first → (shown out new : List ℕ) (a : Answer)
+pub batch_read : (r scan old bytes : List ℕ) (first : ℕ) → Batch r scan old bytes first → (shown out new : List ℕ) (a : Result ℕ Refusal)
     → shown ≡ pattern_scan first (length scan) → Run r shown old out a → new ≡ table_of (length bytes) (middle_of out)
     → new ≡ table_of (length bytes) (λ v. truth_of r (first + v))
 batch_read r scan old bytes first ok shown out new a shows run read =
@@ -114,7 +114,7 @@ batch_read r scan old bytes first ok shown out new a shows run read =
 -- ---- the batches one after the other
 
 -- the bytes from at to next are a batch, and the first samples of a scan and of a run show its patterns
-pub batch_fits : (r table scan out : List ℕ) (at next n : ℕ) → recipe_checked r ≡ Fine → at < next → next ≤ at + batch_bytes
+pub batch_fits : (r table scan out : List ℕ) (at next n : ℕ) → recipe_checked r ≡ Ok tt → at < next → next ≤ at + batch_bytes
     → next ≤ table_bytes → length table ≡ table_bytes → length scan ≡ batch_samples → length out ≡ batch_samples → n ≡ (next - at) * byte_samples
     → Batch r (take n scan) (take n out) (mid_of at (next - at) table) (byte_bits * at)
 batch_fits r table scan out at next n fine more near most whole scans outs size =

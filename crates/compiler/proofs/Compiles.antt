@@ -1,5 +1,6 @@
 -- What the compiler makes of a recipe's verdict and of its truth table is what it promises.
 -- Assumes nothing.
+use Rattle.std.specs.Prelude.{Result, Ok, Err}
 use Prim.Native.Nat.{ℕ}
 use mathlib.Core.Path.{◌≡◌, sym, ◌∙◌, subst}
 use mathlib.Core.List.{List}
@@ -10,9 +11,6 @@ use Rattle.theory.specs.Signals.{window, wide}
 use Rattle.theory.proofs.Signals.{window_fair}
 use Rattle.theory.proofs.Truth.{truth_positive}
 use Rattle.refusals.specs.declared.Refusal.{Refusal}
-use Rattle.refusals.specs.declared.Checked.TheVariants as checked
-use Rattle.refusals.specs.declared.Answer.{Answer}
-use Rattle.refusals.specs.declared.Answer.TheVariants as answer
 use Rattle.tables.specs.Tables.{TableToForm}
 use Rattle.tables.proofs.Accepted.{gives_refused}
 use Rattle.tables.proofs.Tabulated.{tabulated_gives}
@@ -27,11 +25,11 @@ pub recipe_positive : (r : List ℕ) → Positive width (truth_of r)
 unfolding window wide
 recipe_positive r u v l e h = truth_plan r v ∙ truth_positive window window_fair (plan_of r) u v l e (sym (truth_plan r u) ∙ h)
 
-pub compile_refused : (r old : List ℕ) (x : Refusal) → recipe_checked r ≡ checked.Refused x → Compile r old old (answer.Refused x)
+pub compile_refused : (r old : List ℕ) (x : Refusal) → recipe_checked r ≡ Err x → Compile r old old (Err x)
 unfolding compile_checked
 compile_refused r old x e = record { gives = gives_refused (rw e); faithful = accepted_faithful r }
 
-pub compile_done : (r table old new : List ℕ) (a : Answer) → recipe_checked r ≡ checked.Fine → table ≡ table_of table_bytes (truth_of r)
+pub compile_done : (r table old new : List ℕ) (a : Result ℕ Refusal) → recipe_checked r ≡ Ok tt → table ≡ table_of table_bytes (truth_of r)
     → TableToForm table old new a → Compile r old new a
 unfolding compile_checked compiled_form
 compile_done r table old new a fine e formed =

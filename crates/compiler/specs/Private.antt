@@ -1,9 +1,9 @@
 -- Only private contracts cite this: the scan that shows a batch of patterns, the width to a pattern, and what is read off a run on it.
+use Rattle.std.specs.Prelude.{Ok}
 use Rattle.std.specs.Prelude.{ℕ, ◌+◌, ◌*◌, ◌/◌, ◌%◌, ◌≤◌, ◌<◌, ◌≡◌, Bool, List, leb, length, get_or}
 use Rattle.limits.specs.Limits.{reach, width, patterns, byte_bits}
 use Rattle.theory.specs.Lists.{bit, tab}
 use Rattle.theory.specs.Sets.{has}
-use Rattle.refusals.specs.declared.Checked.TheVariants.{Fine}
 use Rattle.windows.specs.Columns.{position_in}
 use Rattle.recipes.specs.Judge.{recipe_checked}
 use Rattle.rows.specs.Private.{piece}
@@ -39,7 +39,7 @@ middle_of out v = leb 1 (get_or out (v * width + reach) 0)
 -- a batch to fill: an accepted recipe, some bytes of the truth table and no more than a batch's, and a scan and a run of as many samples as
 -- show their patterns
 pub record Batch (r scan out bytes : List ℕ) (first : ℕ) : Type 0 where
-  pub fine : recipe_checked r ≡ Fine
+  pub fine : recipe_checked r ≡ Ok tt
   pub nonempty : 0 < length bytes
   pub few : length bytes ≤ batch_bytes
   pub scanned : length scan ≡ length bytes * byte_samples

@@ -11,14 +11,13 @@ ghost use Rattle.limits.specs.Limits.{width, patterns, byte_bits, table_bytes};
 ghost use Rattle.theory.specs.Lists.{tab};
 ghost use Rattle.theory.specs.Sets.{gather};
 ghost use Rattle.theory.specs.Tables.{table_of};
-ghost use Rattle.refusals.specs.declared.Checked.TheVariants.{Fine};
 ghost use Rattle.recipes.specs.Judge.{recipe_checked};
 ghost use Rattle.recipes.specs.Meaning.{truth_of};
 ghost use Rattle.compiler.specs.Private.{byte_samples, batch_bytes, sample_of, pattern_scan, middle_of, Batch};
 ghost use Rattle.compiler.specs.Compile.{Compile};
 
 use limits::{BYTE_BITS, REACH, TABLE_BYTES, WIDTH};
-use refusals::{Answer, Checked};
+use refusals::Refusal;
 
 // The samples that show the patterns of a byte of the truth table.
 const BYTE_SAMPLES: usize = BYTE_BITS * WIDTH;
@@ -38,10 +37,8 @@ fn show(v: usize, k: usize) -> u16
 fn show_pattern(scan: &mut [u16], v: usize)
     ensures { scan.new ≡ tab (length scan.old) (sample_of v) }
 {
-    let mut k = 0;
-    while k < scan.len() {
+    for k in 0..scan.len() {
         scan[k] = show(v, k);
-        k += 1;
     }
 }
 
@@ -64,10 +61,8 @@ fn read_byte(out: &[u16], j: usize) -> u8
     ensures { result ≡ gather byte_bits (λ i. middle_of out.now (byte_bits * j + i)) }
 {
     let mut values = [false; BYTE_BITS];
-    let mut i: usize = 0;
-    while i < BYTE_BITS {
+    for i in 0..BYTE_BITS {
         values[i] = 1 <= out[(BYTE_BITS * j + i) * WIDTH + REACH];
-        i += 1;
     }
     bits::byte(values)
 }
@@ -77,10 +72,8 @@ fn read_bytes(out: &[u16], bytes: &mut [u8])
     requires { length out.now ≡ length bytes.old * byte_samples }
     ensures { bytes.new ≡ table_of (length bytes.old) (middle_of out.now) }
 {
-    let mut j = 0;
-    while j < bytes.len() {
+    for j in 0..bytes.len() {
         bytes[j] = read_byte(out, j);
-        j += 1;
     }
 }
 
@@ -90,7 +83,7 @@ fn fill_batch(recipe: &[u8], scan: &mut [u16], out: &mut [u16], bytes: &mut [u8]
     ensures { bytes.new ≡ table_of (length bytes.old) (λ v. truth_of recipe.now (first + v)) }
 {
     show_patterns(scan, first);
-    runner::run(recipe, scan, out);
+    let _ = runner::run(recipe, scan, out);
     read_bytes(out, bytes);
 }
 
@@ -108,7 +101,7 @@ fn end_batch(at: usize) -> usize
 
 // The truth table of an accepted recipe, one batch after the other.
 fn tabulate(recipe: &[u8]) -> [u8; TABLE_BYTES]
-    requires { recipe_checked recipe.now ≡ Fine }
+    requires { recipe_checked recipe.now ≡ Ok tt }
     ensures { result ≡ table_of table_bytes (truth_of recipe.now) }
 {
     let mut table = [0u8; TABLE_BYTES];
@@ -132,13 +125,11 @@ fn tabulate(recipe: &[u8]) -> [u8; TABLE_BYTES]
 
 // Compiles a recipe to its form: the terms go to the start of `terms`, and the answer is their number. Refuses 1 to 5 as
 // `recipes::judge` does, then 6 where fewer elements are lent than the form has terms. A refusal changes no element of `terms`.
-pub fn compile(recipe: &[u8], terms: &mut [u16]) -> Answer
+#[tactic(auto, unfolding(crate::specs::Compile::compile_checked), using(crate::proofs::Demand::accepted_faithful))]
+pub fn compile(recipe: &[u8], terms: &mut [u16]) -> Result<usize, Refusal>
     ensures { Compile recipe.now terms.old terms.new result }
 {
-    let checked = recipes::judge(recipe);
-    if let Checked::Refused(refusal) = checked {
-        return Answer::Refused(refusal);
-    }
+    recipes::judge(recipe)?;
     let table = tabulate(recipe);
     tables::table_to_form(&table, terms)
 }

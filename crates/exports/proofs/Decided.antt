@@ -1,14 +1,13 @@
 -- Each function of the C interface has one outcome: two that its contract allows on the same input have the same result, the same value,
 -- and the same in everything else that it writes.
 -- Assumes nothing.
+use Rattle.std.specs.Prelude.{Result}
+use Rattle.refusals.specs.Refusals.{Checked}
 use Prim.Native.Nat.{ℕ}
-use native.Mathlib.Omega.{arith}
 use mathlib.Core.Path.{◌≡◌, sym, ap, ◌∙◌}
 use mathlib.Core.List.{List}
 use Rattle.refusals.specs.declared.Refusal.{Refusal}
-use Rattle.refusals.specs.declared.Answer.{Answer}
-use Rattle.refusals.specs.declared.Checked.{Checked}
-use Rattle.refusals.specs.Refusals.{refusal}
+use Rattle.refusals.specs.Numbers.{number_of, place_of}
 use Rattle.refusals.specs.Promise.{Gives}
 use Rattle.refusals.proofs.Decided.{gives_decided}
 use Rattle.compiler.specs.Compile.{Compile}
@@ -16,23 +15,21 @@ use Rattle.exports.specs.Told.{Told, given, refused}
 
 module _ {code code' value value' : ℕ} where
   -- where two promises leave one answer and tell something else beside, C is told one thing
-  told_decided : {P Q : Answer → Type 0} {Else : Type 0} → ((a b : Answer) → P a → Q b → (a ≡ b) × Else)
+  told_decided : {P Q : Result ℕ Refusal → Type 0} {Else : Type 0} → ((a b : Result ℕ Refusal) → P a → Q b → (a ≡ b) × Else)
       → Told P code value → Told Q code' value' → (code ≡ code') × (value ≡ value') × Else
   told_decided one (given z p) (given z' q) =
       let same = one _ _ p q in
       (z ∙ sym z', cc, same.1)
-  told_decided one (given z p) (refused q) =
+  told_decided one (given z p) (refused r n v q) =
+      let same = (one _ _ p q).0 in
+      absurd (cc)
+  told_decided one (refused r n v p) (given z q) =
+      let same = (one _ _ p q).0 in
+      absurd (cc)
+  told_decided one (refused r n v p) (refused r' n' v' q) =
       let same = one _ _ p q in
-      let no : ◌≡◌ {A = ℕ} 0 1 = cc in
-      absurd (omega arith)
-  told_decided one (refused p) (given z q) =
-      let same = one _ _ p q in
-      let no : ◌≡◌ {A = ℕ} 0 1 = cc in
-      absurd (omega arith)
-  told_decided one (refused p) (refused q) =
-      let same = one _ _ p q in
-      let e : refusal code value ≡ refusal code' value' = cc in
-      (ap (λ (r : Refusal). r.number) e, ap (λ (r : Refusal). r.place) e, same.1)
+      let e : r ≡ r' = cc in
+      (n ∙ ap number_of e ∙ sym n', v ∙ ap place_of e ∙ sym v', same.1)
 
   -- the calls that answer a number and fill one slice
   pub slice_decided : {A : Type 0} {check : ℕ → Checked} {n : ℕ} {gift old new new' : List A}
@@ -54,6 +51,6 @@ module _ {code code' value value' : ℕ} where
       told_decided (λ a b p q. let both = gives_decided p q in (both.0, (both.1, e ∙ sym e'))) t t'
 
   -- the form check, the root question, reading, counting and the list of names: whatever else these write, their contracts give by an equation
-  pub answer_decided : {answer : Answer} {X : Type 0} {x x' known : X} → Told (λ a. a ≡ answer) code value → x ≡ known
+  pub answer_decided : {answer : Result ℕ Refusal} {X : Type 0} {x x' known : X} → Told (λ a. a ≡ answer) code value → x ≡ known
       → Told (λ a. a ≡ answer) code' value' → x' ≡ known → (code ≡ code') × (value ≡ value') × (x ≡ x')
   answer_decided t e t' e' = told_decided (λ a b p q. (p ∙ sym q, e ∙ sym e')) t t'

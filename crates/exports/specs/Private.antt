@@ -1,36 +1,31 @@
 -- Only private contracts cite this: the answers of the calls with answers of their own, as what C is told.
-use Rattle.std.specs.Prelude.{ℕ, List, [], ◌∷◌}
-use Rattle.refusals.specs.declared.Answer.{Answer}
-use Rattle.refusals.specs.declared.Answer.TheVariants as answer
-use Rattle.scans.specs.declared.RootAnswer.{RootAnswer}
-use Rattle.scans.specs.declared.RootAnswer.TheVariants as root
-use Rattle.files.specs.declared.ReadAnswer.{ReadAnswer}
-use Rattle.files.specs.declared.ReadAnswer.TheVariants as read
-use Rattle.reports.specs.declared.CountAnswer.{CountAnswer}
-use Rattle.reports.specs.declared.CountAnswer.TheVariants as count
+use Rattle.std.specs.Prelude.{ℕ, List, [], ◌∷◌, Result, Ok, Err, Option, Some, None}
+use Rattle.refusals.specs.declared.Refusal.{Refusal}
+use Rattle.files.specs.declared.Sizes.{Sizes}
+use Rattle.reports.specs.declared.Counts.{Counts}
 
 -- the root question, on so many samples: the first that differs, or their number where none does
-abbrev pub sample_in : RootAnswer → ℕ → Answer
-sample_in root.Root samples = answer.Done samples
-sample_in (root.Differs x) samples = answer.Done x
-sample_in (root.Refused r) samples = answer.Refused r
+abbrev pub sample_in : Result (Option ℕ) Refusal → ℕ → Result ℕ Refusal
+sample_in (Ok None) samples = Ok samples
+sample_in (Ok (Some x)) samples = Ok x
+sample_in (Err r) samples = Err r
 
 -- reading: the number of samples
-abbrev pub samples_in : ReadAnswer → Answer
-samples_in (read.Read samples terms) = answer.Done samples
-samples_in (read.Refused r) = answer.Refused r
+abbrev pub samples_in : Result Sizes Refusal → Result ℕ Refusal
+samples_in (Ok sizes) = Ok sizes.samples
+samples_in (Err r) = Err r
 
 -- reading: the number of terms; as it was, where nothing was read
-abbrev pub terms_in : ReadAnswer → ℕ → ℕ
-terms_in (read.Read samples terms) before = terms
-terms_in (read.Refused r) before = before
+abbrev pub terms_in : Result Sizes Refusal → ℕ → ℕ
+terms_in (Ok sizes) before = sizes.terms
+terms_in (Err r) before = before
 
 -- counting: the number of samples
-abbrev pub counted_in : CountAnswer → Answer
-counted_in (count.Counted c) = answer.Done c.samples
-counted_in (count.Refused r) = answer.Refused r
+abbrev pub counted_in : Result Counts Refusal → Result ℕ Refusal
+counted_in (Ok c) = Ok c.samples
+counted_in (Err r) = Err r
 
 -- counting: the five numbers in the printed order; as they were, where nothing was counted
-abbrev pub five_in : CountAnswer → List ℕ → List ℕ
-five_in (count.Counted c) before = c.samples ∷ c.changed ∷ c.spikes ∷ c.up ∷ c.down ∷ []
-five_in (count.Refused r) before = before
+abbrev pub five_in : Result Counts Refusal → List ℕ → List ℕ
+five_in (Ok c) before = c.samples ∷ c.changed ∷ c.spikes ∷ c.up ∷ c.down ∷ []
+five_in (Err r) before = before

@@ -1,7 +1,7 @@
 -- The night sheet in C: its totals as numbers in the order of its last line, and what a file makes of them.
 use Rattle.std.specs.Prelude.{ℕ, List, get_or}
 use Rattle.limits.specs.Limits.{line_bytes}
-use Rattle.refusals.specs.Refusals.{answered}
+use Rattle.refusals.specs.Refusals.{kept}
 use Rattle.refusals.specs.Shared.{lent_checked}
 use Rattle.reports.specs.Counts.{file_counted}
 use Rattle.totals.specs.declared.Outcome.{Outcome}
@@ -35,4 +35,4 @@ totals_in ns = record {
 
 -- the numbers after a file, with so many bytes lent for its line: with its outcome, or as they were where 10 is refused
 abbrev pub summed : List ℕ → Outcome → ℕ → List ℕ
-summed ns o lent = answered (lent_checked line_bytes lent) (in_order (added (totals_in ns) o)) (λ _. ns)
+summed ns o lent = kept (lent_checked line_bytes lent) (in_order (added (totals_in ns) o)) ns

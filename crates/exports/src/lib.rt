@@ -11,7 +11,7 @@ ghost use Rattle.std.specs.Prelude.{◌≡◌, [], ◌∷◌, length};
 ghost use Rattle.limits.specs.Limits.{width, line_bytes, totals_bytes};
 ghost use Rattle.theory.specs.Lists.{first};
 ghost use Rattle.theory.specs.Signals.{held, filtered_at};
-ghost use Rattle.refusals.specs.Refusals.{answered, answer_of, written};
+ghost use Rattle.refusals.specs.Refusals.{and_then, kept, written};
 ghost use Rattle.forms.specs.Check.{form_checked};
 ghost use Rattle.tables.specs.Tables.{TableToForm, FormToTable};
 ghost use Rattle.presets.specs.Presets.{Preset};
@@ -28,86 +28,85 @@ ghost use Rattle.exports.specs.Told.{Told};
 ghost use Rattle.exports.specs.Sheet.{outcome_in, totals_in, summed};
 ghost use Rattle.exports.specs.Private.{sample_in, samples_in, terms_in, counted_in, five_in};
 
-use files::ReadAnswer;
+use files::Sizes;
 use limits::{LINE_BYTES, WIDTH};
 use lines::NUMBERS;
-use refusals::{Answer, Checked};
-use reports::CountAnswer;
-use scans::RootAnswer;
+use refusals::Refusal;
+use reports::Counts;
 use totals::{Outcome, Totals};
 
 // ---- what C is told
 
 // The result, and the number that C finds at `value`.
-fn tell(answer: Answer, value: &mut usize) -> u8
+fn tell(answer: Result<usize, Refusal>, value: &mut usize) -> u8
     ensures { Told (λ a. a ≡ answer) result value.new }
 {
     match answer {
-        Answer::Done(n) => {
+        Ok(n) => {
             *value = n;
             0
         }
-        Answer::Refused(refusal) => {
-            *value = refusal.place;
-            refusal.number
+        Err(refusal) => {
+            *value = refusal.place();
+            refusal.number()
         }
     }
 }
 
 // The first sample that differs, or the number of samples where none does.
-fn sample_in(answer: RootAnswer, samples: usize) -> Answer
+fn sample_in(answer: Result<Option<usize>, Refusal>, samples: usize) -> Result<usize, Refusal>
     ensures { result ≡ sample_in answer samples }
 {
     match answer {
-        RootAnswer::Root => Answer::Done(samples),
-        RootAnswer::Differs(x) => Answer::Done(x),
-        RootAnswer::Refused(refusal) => Answer::Refused(refusal),
+        Ok(None) => Ok(samples),
+        Ok(Some(x)) => Ok(x),
+        Err(refusal) => Err(refusal),
     }
 }
 
 // The number of samples read.
-fn samples_in(answer: ReadAnswer) -> Answer
+fn samples_in(answer: Result<Sizes, Refusal>) -> Result<usize, Refusal>
     ensures { result ≡ samples_in answer }
 {
     match answer {
-        ReadAnswer::Read { samples, terms: _ } => Answer::Done(samples),
-        ReadAnswer::Refused(refusal) => Answer::Refused(refusal),
+        Ok(sizes) => Ok(sizes.samples),
+        Err(refusal) => Err(refusal),
     }
 }
 
 // The number of terms read; what stood there before, where nothing was.
-fn terms_in(answer: ReadAnswer, before: usize) -> usize
+fn terms_in(answer: Result<Sizes, Refusal>, before: usize) -> usize
     ensures { result ≡ terms_in answer before }
 {
     match answer {
-        ReadAnswer::Read { samples: _, terms } => terms,
-        ReadAnswer::Refused(_) => before,
+        Ok(sizes) => sizes.terms,
+        Err(_) => before,
     }
 }
 
 // The number of samples counted.
-fn counted_in(answer: CountAnswer) -> Answer
+fn counted_in(answer: Result<Counts, Refusal>) -> Result<usize, Refusal>
     ensures { result ≡ counted_in answer }
 {
     match answer {
-        CountAnswer::Counted(counts) => Answer::Done(counts.samples as usize),
-        CountAnswer::Refused(refusal) => Answer::Refused(refusal),
+        Ok(counts) => Ok(counts.samples as usize),
+        Err(refusal) => Err(refusal),
     }
 }
 
 // The five numbers in the printed order; what stood there before, where nothing was counted.
-fn five_in(answer: CountAnswer, before: [u64; 5]) -> [u64; 5]
+fn five_in(answer: Result<Counts, Refusal>, before: [u64; 5]) -> [u64; 5]
     ensures { result ≡ five_in answer before }
 {
     match answer {
-        CountAnswer::Counted(counts) => [
+        Ok(counts) => [
             counts.samples,
             counts.changed,
             counts.spikes,
             counts.up,
             counts.down,
         ],
-        CountAnswer::Refused(_) => before,
+        Err(_) => before,
     }
 }
 
@@ -138,9 +137,17 @@ fn sum(numbers: [u64; NUMBERS], outcome: Outcome, lent: usize) -> [u64; NUMBERS]
     ensures { result ≡ summed numbers outcome lent }
 {
     match refusals::check_lent(LINE_BYTES, lent) {
-        Checked::Fine => lines::in_order(totals::add(totals_in(numbers), outcome)),
-        Checked::Refused(_) => numbers,
+        Ok(()) => lines::in_order(totals::add(totals_in(numbers), outcome)),
+        Err(_) => numbers,
     }
+}
+
+// So many terms, where they are a form.
+fn count_in(checked: Result<(), Refusal>, terms: usize) -> Result<usize, Refusal>
+    ensures { result ≡ and_then checked (Ok terms) }
+{
+    checked?;
+    Ok(terms)
 }
 
 // ---- the calls
@@ -170,12 +177,9 @@ pub extern "C" fn sf_run_recipe(
 #[unsafe(no_mangle)]
 pub extern "C" fn sf_check(terms: &[u16], value: &mut usize) -> u8
     ensures { let form = terms.now in
-        Told (λ a. a ≡ answer_of (form_checked width form) (length form)) result value.new }
+        Told (λ a. a ≡ and_then (form_checked width form) (Ok (length form))) result value.new }
 {
-    tell(
-        refusals::answer_with(forms::check(WIDTH, terms), terms.len()),
-        value,
-    )
+    tell(count_in(forms::check(WIDTH, terms), terms.len()), value)
 }
 
 // A truth table to its form; see tables::table_to_form. Refuses 13, 12, 6; the terms go to `terms`, their number to `value`.
@@ -224,7 +228,7 @@ pub extern "C" fn sf_residue(terms: &[u16], scan: &[u16], out: &mut [i32], value
 pub extern "C" fn sf_root(terms: &[u16], scan: &[u16], value: &mut usize) -> u8
     ensures { let form = terms.now in
         let s = scan.now in
-        Told (λ a. a ≡ answer_of (root_checked form s) (first (differs (filtered_at held form s) s) (length s))) result value.new }
+        Told (λ a. a ≡ and_then (root_checked form s) (Ok (first (differs (filtered_at held form s) s) (length s)))) result value.new }
 {
     tell(sample_in(scans::root(terms, scan), scan.len()), value)
 }
@@ -249,10 +253,10 @@ pub extern "C" fn sf_read(
 ) -> u8
     ensures { let f = file.now in
         let check = read_checked counts_family f (length samples.old) (length terms.old) in
-        Told (λ a. a ≡ answer_of check (length (file_samples f))) result value.new
+        Told (λ a. a ≡ and_then check (Ok (length (file_samples f)))) result value.new
         × (samples.new ≡ written check (file_samples f) samples.old)
         × (terms.new ≡ written check (file_terms f) terms.old)
-        × (terms_read.new ≡ answered check (length (file_terms f)) (λ _. terms_read.old)) }
+        × (terms_read.new ≡ kept check (length (file_terms f)) terms_read.old) }
 {
     let answer = files::read(file, samples, terms);
     *terms_read = terms_in(answer, *terms_read);
@@ -266,8 +270,8 @@ pub extern "C" fn sf_count(file: &[u8], counts: &mut [u64; 5], value: &mut usize
     ensures { let f = file.now in
         let check = file_checked counts_family f in
         let c = counts_in f in
-        Told (λ a. a ≡ answer_of check (length (file_samples f))) result value.new
-        × (counts.new ≡ answered check (c.samples ∷ c.changed ∷ c.spikes ∷ c.up ∷ c.down ∷ []) (λ _. counts.old)) }
+        Told (λ a. a ≡ and_then check (Ok (length (file_samples f)))) result value.new
+        × (counts.new ≡ kept check (c.samples ∷ c.changed ∷ c.spikes ∷ c.up ∷ c.down ∷ []) counts.old) }
 {
     let answer = reports::count(file);
     *counts = five_in(answer, *counts);

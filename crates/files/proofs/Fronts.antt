@@ -1,5 +1,7 @@
 -- The form check stops early: of a list longer than every form, its front decides.
 -- Assumes nothing.
+use Rattle.std.specs.Prelude.{Err}
+use Rattle.refusals.specs.declared.Refusal.TheVariants.{BadTerm}
 use mathlib.Core.Path.{◌≡◌, sym, ap, ◌∙◌}
 use mathlib.Core.Bool.{true, false}
 use mathlib.Core.List.{List}
@@ -16,8 +18,6 @@ use Rattle.theory.proofs.Tests.{which}
 use Rattle.theory.proofs.Searches.{first_cong, first_more}
 use Rattle.theory.proofs.Slices.{take-tab}
 use Rattle.theory.proofs.Valid.{long_bad, bad_front}
-use Rattle.refusals.specs.Refusals.{refusal}
-use Rattle.refusals.specs.declared.Checked.TheVariants.{Refused}
 use Rattle.forms.specs.Check.{terms_checked, form_checked}
 use Rattle.limits.specs.Limits.{word_bytes}
 use Rattle.files.specs.Bytes.{word_at, words_from}
@@ -25,7 +25,7 @@ use Rattle.files.specs.Bytes.{word_at, words_from}
 module _ (w : ℕ) where
   -- 7 at the first bad term, whatever the length
   bad_refused : (ts : List ℕ) → any_below (is_bad w ts) (length ts) ≡ true
-      → form_checked w ts ≡ Refused (refusal 7 (first (is_bad w ts) (length ts)))
+      → form_checked w ts ≡ Err (BadTerm (first (is_bad w ts) (length ts)))
   unfolding form_checked terms_checked
   bad_refused ts e = rw e
 
@@ -43,7 +43,7 @@ module _ (w : ℕ) where
           let same : first p (length (take n ts)) ≡ first q n = rw len (first_cong p q n (λ i b. bad_front w n ts i b)) in
           let more : first q (length ts) ≡ first q n = first_more q n (length ts) (omega arith) (omega arith) in
           bad_refused (take n ts) bad
-          ∙ ap (λ (k : ℕ). Refused (refusal 7 k)) (same ∙ sym more)
+          ∙ ap (λ (k : ℕ). Err (BadTerm k)) (same ∙ sym more)
           ∙ sym (bad_refused ts (lt-ltb (first q (length ts)) (length ts) (omega arith)))
 
       go : (ltb n (length ts) ≡ true) ⊎ (ltb n (length ts) ≡ false) → form_checked w (take n ts) ≡ form_checked w ts

@@ -1,5 +1,7 @@
 -- What a file that is laid out well tells: its conditions as facts, and where its samples and terms lie. Over the family.
 -- Assumes nothing.
+use Rattle.refusals.specs.declared.Refusal.{Refusal}
+use Rattle.std.specs.Prelude.{Ok}
 use mathlib.Core.Path.{◌≡◌}
 use mathlib.Core.Bool.{Bool, true, false, not, ◌&&◌}
 use mathlib.Core.List.{List}
@@ -13,8 +15,7 @@ use Rattle.limits.specs.Limits.{word_bytes, trailer_bytes, most_terms, longest_f
 use Rattle.theory.proofs.Tests.{and_left, and_right, and_false}
 use Rattle.theory.proofs.Lists.{length-tab}
 use Rattle.refusals.specs.Refusals.{refuse_if}
-use Rattle.refusals.specs.declared.Checked.TheVariants.{Fine}
-use Rattle.refusals.proofs.Checks.{refuse_no, or_else_fine}
+use Rattle.refusals.proofs.Checks.{refuse_no, and_then_fine}
 use Rattle.files.specs.declared.Family.{Family}
 use Rattle.files.specs.Bytes.{word_at, words_from}
 use Rattle.files.specs.Layout.{counts_family, samples_back, terms_back, term_count, terms_distance, points_at_terms, file_terms}
@@ -34,30 +35,30 @@ unfolding file_length terms_distance
 length_most family samples terms short few = omega (arith, mul-le-mul_left family.bytes short)
 
 -- where nothing is refused, the condition holds
-holds : (b : Bool) (n p : ℕ) → refuse_if (not b) n p ≡ Fine → b ≡ true
-holds b n p e = not-false b (refuse_no (not b) n p e)
+holds : (b : Bool) (r : Refusal) → refuse_if (not b) r ≡ Ok tt → b ≡ true
+holds b r e = not-false b (refuse_no (not b) r e)
 
 module _ (family : Family) (f : List ℕ) where
-  pub well_laid : layout_checked family f ≡ Fine → Laid family f
+  pub well_laid : layout_checked family f ≡ Ok tt → Laid family f
   unfolding layout_checked sized marked points_at_terms points_at_samples
   well_laid e =
-      let a = or_else_fine _ _ e in
-      let b = or_else_fine _ _ a.1 in
-      let c = or_else_fine _ _ b.1 in
-      let size = holds (sized family f) _ _ a.0 in
-      let distance = holds (points_at_samples family f) _ _ c.1 in
+      let a = and_then_fine _ _ e in
+      let b = and_then_fine _ _ a.1 in
+      let c = and_then_fine _ _ b.1 in
+      let size = holds (sized family f) _ a.0 in
+      let distance = holds (points_at_samples family f) _ c.1 in
       let front = and_left (eqb (samples_back f) (length f) && leb (terms_back f) (samples_back f)) _ distance in
       record {
         long_enough = leb-true _ _ (and_left _ _ size);
         short_enough = leb-true _ _ (and_right (leb trailer_bytes (length f)) _ size);
-        mark = eqb-true _ _ (holds (marked family f) _ _ b.0);
-        to_terms = eqb-true _ _ (holds (points_at_terms f) _ _ c.0);
+        mark = eqb-true _ _ (holds (marked family f) _ b.0);
+        to_terms = eqb-true _ _ (holds (points_at_terms f) _ c.0);
         to_samples = eqb-true _ _ (and_left _ _ front);
         in_order = leb-true _ _ (and_right (eqb (samples_back f) (length f)) _ front);
         whole_samples = eqb-true _ _ (and_right (eqb (samples_back f) (length f) && leb (terms_back f) (samples_back f)) _ distance);
       }
 
-  pub laid_well : Laid family f → layout_checked family f ≡ Fine
+  pub laid_well : Laid family f → layout_checked family f ≡ Ok tt
   unfolding layout_checked sized marked points_at_terms points_at_samples
   laid_well l =
       simp (

@@ -1,22 +1,20 @@
 -- Demand 2, the scan file: what is written reads back as the same samples and form, a file that was read is written again byte for
 -- byte, and a readable file is the only file for its contents.
 -- Assumes nothing.
+use Rattle.std.specs.Prelude.{Result, Ok}
+use Rattle.refusals.specs.declared.Refusal.{Refusal}
 use mathlib.Core.Path.{◌≡◌, refl, sym, ap, ap₂, ◌∙◌}
 use mathlib.Core.List.{List, ◌++◌}
 use Prim.Native.Nat.{ℕ, ◌*◌, ◌≤◌, ◌<◌}
 use native.Mathlib.Omega.{arith}
 use lib.ListN.{length, take, drop}
 use Rattle.limits.specs.Limits.{width}
-use Rattle.refusals.specs.declared.Answer.{Answer}
-use Rattle.refusals.specs.declared.Answer.TheVariants as answer
-use Rattle.refusals.specs.declared.Checked.TheVariants as checked
 use Rattle.refusals.proofs.Checks.{done_fine, written_whole}
 use Rattle.forms.proofs.Fine.{fine_few}
 use Rattle.files.specs.declared.Family.{Family}
-use Rattle.files.specs.declared.ReadAnswer.{ReadAnswer}
-use Rattle.files.specs.declared.ReadAnswer.TheVariants as read
 use Rattle.files.specs.Layout.{counts_family, term_count, file_terms, sample_count, file_of, file_samples, counts_file}
-use Rattle.files.specs.Files.{layout_checked, file_checked, write_checked, Read, Write}
+use Rattle.files.specs.declared.Sizes.{Sizes}
+use Rattle.files.specs.Files.{sizes, layout_checked, file_checked, write_checked, Read, Write}
 use Rattle.files.specs.Causes.{Bytes}
 use Rattle.files.proofs.Layouts.{counts_usable, well_laid, whole, samples_counted, terms_counted}
 use Rattle.files.proofs.Stores.{length-in_words}
@@ -30,7 +28,7 @@ use Rattle.files.proofs.Contents.{length_counts, counts_samples, counts_terms, c
 module _ (family : Family) (wide : 0 < family.bytes) where
   -- the file of a form and of samples that are accepted can be read, and holds the same form and as many samples
   pub written_readable : (stored : List ℕ) (samples : ℕ) (form : List ℕ) (lent : ℕ) → length stored ≡ family.bytes * samples
-      → write_checked family form samples lent ≡ checked.Fine
+      → write_checked family form samples lent ≡ Ok tt
       → Readable family (file_of family stored samples form)
   written_readable stored samples form lent fits e =
       let w = fine_write family form samples lent e in
@@ -43,20 +41,20 @@ module _ (family : Family) (wide : 0 < family.bytes) where
       }
 
 -- a file that is laid out well is what is written of its contents
-pub contents_write : (family : Family) (f : List ℕ) → Bytes f → layout_checked family f ≡ checked.Fine
+pub contents_write : (family : Family) (f : List ℕ) → Bytes f → layout_checked family f ≡ Ok tt
     → file_of family (take (family.bytes * sample_count family f) f) (sample_count family f) (file_terms f) ≡ f
 contents_write family f ok e = file_of_contents family f ok (well_laid family f e)
 
 -- ---- over the definitions, for counts
 
 -- what is written reads back: the file is accepted, and holds the same samples and the same form
-counts_readable : (form scan : List ℕ) (lent : ℕ) → write_checked counts_family form (length scan) lent ≡ checked.Fine
+counts_readable : (form scan : List ℕ) (lent : ℕ) → write_checked counts_family form (length scan) lent ≡ Ok tt
     → Readable counts_family (counts_file form scan)
 unfolding counts_file
 counts_readable form scan lent e = written_readable counts_family counts_usable.wide _ (length scan) form lent (length-in_words scan) e
 
-pub written_holds : (form scan : List ℕ) (lent : ℕ) → write_checked counts_family form (length scan) lent ≡ checked.Fine
-    → (file_checked counts_family (counts_file form scan) ≡ checked.Fine)
+pub written_holds : (form scan : List ℕ) (lent : ℕ) → write_checked counts_family form (length scan) lent ≡ Ok tt
+    → (file_checked counts_family (counts_file form scan) ≡ Ok tt)
     × (file_samples (counts_file form scan) ≡ scan)
     × (file_terms (counts_file form scan) ≡ form)
 written_holds form scan lent e =
@@ -64,17 +62,17 @@ written_holds form scan lent e =
 
 -- a readable file is the only file for its contents
 pub only_file_for : (f g : List ℕ) → Bytes f → Bytes g
-    → file_checked counts_family f ≡ checked.Fine → file_checked counts_family g ≡ checked.Fine
+    → file_checked counts_family f ≡ Ok tt → file_checked counts_family g ≡ Ok tt
     → file_samples f ≡ file_samples g → file_terms f ≡ file_terms g → f ≡ g
 only_file_for f g a b p q s t = only_file f g a b (fine_file counts_family f p).laid (fine_file counts_family g q).laid s t
 
 -- ---- over the calls: written, then read
 
 -- what is written reads back: the same samples and the same form, where there is room for them
-pub written_reads_back : (form scan : List ℕ) {old file samples samples' terms terms' : List ℕ} {n : ℕ} {a : ReadAnswer}
-    → Write form scan old file (answer.Done n) → Read file samples samples' terms terms' a
+pub written_reads_back : (form scan : List ℕ) {old file samples samples' terms terms' : List ℕ} {n : ℕ} {a : Result Sizes Refusal}
+    → Write form scan old file (Ok n) → Read file samples samples' terms terms' a
     → length scan ≤ length samples → length form ≤ length terms
-    → (a ≡ read.Read (length scan) (length form))
+    → (a ≡ Ok (sizes (length scan) (length form)))
     × (samples' ≡ scan ++ drop (length scan) samples)
     × (terms' ≡ form ++ drop (length form) terms)
 written_reads_back form scan {old} {file} {samples} {samples'} {terms} {terms'} {n} {a} w r room room' =
@@ -93,9 +91,9 @@ written_reads_back form scan {old} {file} {samples} {samples'} {terms} {terms'} 
 -- ---- over the calls: read, then written
 
 -- what was read is written to the same file, byte for byte
-pub read_writes_back : {f samples samples' terms terms' old new : List ℕ} {m n : ℕ} {a : Answer}
-    → Bytes f → Read f samples samples' terms terms' (read.Read m n) → Write (take n terms') (take m samples') old new a
-    → length old ≡ length f → (a ≡ answer.Done (length f)) × (new ≡ f)
+pub read_writes_back : {f samples samples' terms terms' old new : List ℕ} {m n : ℕ} {a : Result ℕ Refusal}
+    → Bytes f → Read f samples samples' terms terms' (Ok (sizes m n)) → Write (take n terms') (take m samples') old new a
+    → length old ≡ length f → (a ≡ Ok (length f)) × (new ≡ f)
 read_writes_back {f} {samples} {samples'} {terms} {terms'} {old} {new} {m} {n} {a} ok r w long =
     let h = held r refl in
     let readable = h.readable in
@@ -114,7 +112,7 @@ read_writes_back {f} {samples} {samples'} {terms} {terms'} {old} {new} {m} {n} {
 -- ---- over the calls: two files that read alike are one
 
 pub read_alike : {f g samples samples₁ samples₂ samples₃ terms terms₁ terms₂ terms₃ : List ℕ} {m n : ℕ} → Bytes f → Bytes g
-    → Read f samples samples₁ terms terms₁ (read.Read m n) → Read g samples₂ samples₃ terms₂ terms₃ (read.Read m n)
+    → Read f samples samples₁ terms terms₁ (Ok (sizes m n)) → Read g samples₂ samples₃ terms₂ terms₃ (Ok (sizes m n))
     → take m samples₁ ≡ take m samples₃ → take n terms₁ ≡ take n terms₃ → f ≡ g
 read_alike {f} {g} a b r q s t =
     let h = held r refl in

@@ -1,8 +1,9 @@
 -- The words of the scan file's laws, which no contract cites: a file of bytes, one that is laid out well, and why one is not.
+use Rattle.refusals.specs.declared.Refusal.TheVariants.{FileLength, Mark, TermDistance, SampleDistance}
 use Rattle.std.specs.Prelude.{ℕ, ◌-◌, ◌%◌, ◌≤◌, ◌<◌, ◌≡◌, true, false, List, length, get_or}
 use Rattle.limits.specs.Limits.{trailer_bytes, most_terms}
-use Rattle.refusals.specs.Refusals.{refusal}
 use Rattle.refusals.specs.declared.Refusal.{Refusal}
+use Rattle.refusals.specs.Numbers.{notice_of}
 use Rattle.files.specs.declared.Family.{Family}
 use Rattle.files.specs.Bytes.{word_at}
 use Rattle.files.specs.Layout.{samples_field, terms_field, mark_field, samples_back, terms_back, term_count, terms_distance, points_at_terms}
@@ -24,12 +25,12 @@ pub record Laid (family : Family) (f : List ℕ) : Type 0 where
 
 -- why a file is badly laid out: a number's own condition holds, and none before it; with its place
 pub data Cause (family : Family) (f : List ℕ) : Refusal → Type 0 where
-  by_length : sized family f ≡ false → Cause family f (refusal 15 (length f))
-  by_mark : sized family f ≡ true → marked family f ≡ false → Cause family f (refusal 16 (mark_field f))
-  by_terms : sized family f ≡ true → marked family f ≡ true → points_at_terms f ≡ false → Cause family f (refusal 17 (terms_field f))
+  by_length : sized family f ≡ false → Cause family f (FileLength (length f))
+  by_mark : sized family f ≡ true → marked family f ≡ false → Cause family f (Mark (mark_field f))
+  by_terms : sized family f ≡ true → marked family f ≡ true → points_at_terms f ≡ false → Cause family f (TermDistance (terms_field f))
   by_samples : sized family f ≡ true → marked family f ≡ true → points_at_terms f ≡ true → points_at_samples family f ≡ false
-      → Cause family f (refusal 18 (samples_field f))
+      → Cause family f (SampleDistance (samples_field f))
 
 -- a refusal under one of the four numbers
 abbrev pub OfLayout : Refusal → Type 0
-OfLayout r = (15 ≤ r.number) × (r.number ≤ 18)
+OfLayout r = (15 ≤ (notice_of r).number) × ((notice_of r).number ≤ 18)

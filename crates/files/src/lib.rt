@@ -5,12 +5,11 @@
 
 #![tactic(auto)]
 
-ghost use Rattle.std.specs.Prelude.{◌≡◌, ◌++◌, ◌+◌, ◌-◌, ◌*◌, ◌^◌, ◌<◌, ◌≤◌, min, length, drop};
+ghost use Rattle.std.specs.Prelude.{◌≡◌, ◌++◌, ◌+◌, ◌-◌, ◌*◌, ◌^◌, ◌<◌, ◌≤◌, length, drop};
 ghost use Rattle.std.proofs.lemmas.List.Edits.{sets};
 ghost use Rattle.limits.specs.Limits.{word_bytes, width, most_samples, most_terms, trailer_bytes};
-ghost use Rattle.refusals.specs.Refusals.{or_else};
+ghost use Rattle.refusals.specs.Refusals.{and_then};
 ghost use Rattle.refusals.specs.Shared.{scan_checked};
-ghost use Rattle.refusals.specs.declared.Checked.TheVariants.{Fine};
 ghost use Rattle.forms.specs.Check.{form_checked};
 ghost use Rattle.files.specs.Bytes.{two_bytes, four_bytes, in_words, word_at, long_at, words_from};
 ghost use Rattle.files.specs.Layout.{counts_family, terms_back, term_count, terms_distance, points_at_terms, file_terms};
@@ -19,13 +18,13 @@ ghost use Rattle.files.specs.Layout.{file_length, sized, points_at_samples, samp
 ghost use Rattle.files.specs.Files.{layout_checked, file_checked, read_checked, write_checked, Read, Write};
 
 use limits::{MOST_SAMPLES, MOST_TERMS, PATTERNS, TRAILER, WIDTH, WORD_BYTES};
-use refusals::{Answer, Checked, Refusal};
+use refusals::Refusal;
 
-// What a read answers: how many samples and terms the file has, or why it says no.
+// How many samples and terms a file has.
 #[derive(Clone, Copy)]
-pub enum ReadAnswer {
-    Read { samples: usize, terms: usize },
-    Refused(Refusal),
+pub struct Sizes {
+    pub samples: usize,
+    pub terms: usize,
 }
 
 // A family of scan files: the bytes that a sample takes, the word that ends a file, and the most samples of a scan.
@@ -137,36 +136,31 @@ fn points_at_samples(family: Family, file: &[u8]) -> bool
 
 // Refusals 15 to 18 of the layout: the length, then the mark, the term distance and the sample distance, each at the field's first
 // byte.
-fn check_layout(family: Family, file: &[u8]) -> Checked
+#[tactic(auto, unfolding(crate::specs::Files::layout_checked, crate::specs::Layout::marked), using(crate::proofs::Layouts::sized_long))]
+fn check_layout(family: Family, file: &[u8]) -> Result<(), Refusal>
     requires { Usable family }
     ensures { result ≡ layout_checked family file.now }
 {
-    if is_sized(family, file) {
-        let end = file.len();
-        let mark = word_at(file, end - MARK_FIELD);
-        let marked = refusals::refuse_if(mark != family.mark, refusals::MARK, end - MARK_FIELD);
-        let to_terms = refusals::refuse_if(
-            !points_at_terms(file),
-            refusals::TERM_DISTANCE,
-            end - TERMS_FIELD,
-        );
-        let to_samples = refusals::refuse_if(
-            !points_at_samples(family, file),
-            refusals::SAMPLE_DISTANCE,
-            end - SAMPLES_FIELD,
-        );
-        return refusals::or_else(marked, refusals::or_else(to_terms, to_samples));
+    let end = file.len();
+    if !is_sized(family, file) {
+        return Err(Refusal::FileLength(end));
     }
-    Checked::Refused(Refusal {
-        number: refusals::FILE_LENGTH,
-        place: file.len(),
-    })
+    if word_at(file, end - MARK_FIELD) != family.mark {
+        return Err(Refusal::Mark(end - MARK_FIELD));
+    }
+    if !points_at_terms(file) {
+        return Err(Refusal::TermDistance(end - TERMS_FIELD));
+    }
+    if !points_at_samples(family, file) {
+        return Err(Refusal::SampleDistance(end - SAMPLES_FIELD));
+    }
+    Ok(())
 }
 
 // The number of samples of a file that is laid out well.
 fn count_samples(family: Family, file: &[u8]) -> usize
     requires usable { Usable family }
-    requires laid_out { layout_checked family file.now ≡ Fine }
+    requires laid_out { layout_checked family file.now ≡ Ok tt }
     ensures { result ≡ sample_count family file.now }
 {
     (file.len() - terms_back(file)) / family.bytes
@@ -180,18 +174,9 @@ fn copy_words(file: &[u8], at: usize, n: usize, out: &mut [u16])
     requires fits_slice { n ≤ length out.old }
     ensures { out.new ≡ words_from file.now at n ++ drop n out.old }
 {
-    let mut i = 0;
-    while i < n {
+    for i in 0..n {
         out[i] = word_at(file, at + WORD_BYTES * i);
-        i += 1;
     }
-}
-
-// n, but no more than most.
-fn cap(n: usize, most: usize) -> usize
-    ensures { result ≡ min n most }
-{
-    if n < most { n } else { most }
 }
 
 // More words than any form has terms: terms that rise and are patterns are at most as many as there are patterns, so one word more shows
@@ -199,70 +184,71 @@ fn cap(n: usize, most: usize) -> usize
 const ENOUGH: usize = PATTERNS + 1;
 
 // The form check on n words of the file, from a place on. Of more words than enough the front decides.
-fn check_form(file: &[u8], at: usize, n: usize) -> Checked
+fn check_form(file: &[u8], at: usize, n: usize) -> Result<(), Refusal>
     requires { at + word_bytes * n ≤ length file.now }
     ensures { result ≡ form_checked width (words_from file.now at n) }
 {
     let mut terms = [0u16; ENOUGH];
-    let few = cap(n, ENOUGH);
+    let few = n.min(ENOUGH);
     copy_words(file, at, few, &mut terms);
     forms::check(WIDTH, &terms[..few])
 }
 
 // What a file that is laid out well holds: its terms are judged where they lie, then its samples are counted.
-fn check_contents(family: Family, file: &[u8]) -> Checked
+#[tactic(auto, unfolding(crate::specs::Layout::file_terms))]
+fn check_contents(family: Family, file: &[u8]) -> Result<(), Refusal>
     requires usable { Usable family }
-    requires laid_out { layout_checked family file.now ≡ Fine }
-    ensures { result ≡ or_else (form_checked width (file_terms file.now))
+    requires laid_out { layout_checked family file.now ≡ Ok tt }
+    ensures { result ≡ and_then (form_checked width (file_terms file.now))
         (scan_checked family.most (sample_count family file.now)) }
 {
     let first_term = file.len() - terms_back(file);
-    refusals::or_else(
-        check_form(file, first_term, count_terms(file)),
-        refusals::check_scan(family.most, count_samples(family, file)),
-    )
+    check_form(file, first_term, count_terms(file))?;
+    refusals::check_scan(family.most, count_samples(family, file))
 }
 
 // What a file by itself is refused for: 15 to 18 where it is badly laid out, 7 and 8 of its terms, and 9 of its samples, in
 // this order.
-fn check_file(family: Family, file: &[u8]) -> Checked
+#[tactic(auto, unfolding(crate::specs::Files::file_checked))]
+fn check_file(family: Family, file: &[u8]) -> Result<(), Refusal>
     requires { Usable family }
     ensures { result ≡ file_checked family file.now }
 {
-    let layout = check_layout(family, file);
-    if let Checked::Refused(refusal) = layout {
-        return Checked::Refused(refusal);
-    }
+    check_layout(family, file)?;
     check_contents(family, file)
 }
 
-// Whether a read is to be refused, with so many elements lent for samples and for terms.
-fn admit_read(family: Family, file: &[u8], samples_lent: usize, terms_lent: usize) -> Checked
+// What a read refuses, with so many elements lent for samples and for terms.
+#[tactic(auto, unfolding(crate::specs::Files::read_checked, crate::specs::Files::slices_checked))]
+fn admit_read(
+    family: Family,
+    file: &[u8],
+    samples_lent: usize,
+    terms_lent: usize,
+) -> Result<(), Refusal>
     requires { Usable family }
     ensures { result ≡ read_checked family file.now samples_lent terms_lent }
 {
-    let checked = check_file(family, file);
-    if let Checked::Refused(refusal) = checked {
-        return Checked::Refused(refusal);
-    }
+    check_file(family, file)?;
+    refusals::check_room(count_terms(file), terms_lent)?;
     let samples = count_samples(family, file);
-    refusals::or_else(
-        refusals::check_room(count_terms(file), terms_lent),
-        refusals::refuse_if(samples_lent < samples, refusals::OUTPUT_LENGTH, samples),
-    )
+    if samples_lent < samples {
+        return Err(Refusal::OutputLength(samples));
+    }
+    Ok(())
 }
 
 // Copies the samples and the terms of a file of counts that can be read to slices that have room for them.
-fn fill_slices(file: &[u8], samples: &mut [u16], terms: &mut [u16]) -> ReadAnswer
-    requires { read_checked counts_family file.now (length samples.old) (length terms.old) ≡ Fine }
+fn fill_slices(file: &[u8], samples: &mut [u16], terms: &mut [u16]) -> Sizes
+    requires { read_checked counts_family file.now (length samples.old) (length terms.old) ≡ Ok tt }
     ensures { Read file.now
-        samples.old samples.new terms.old terms.new result }
+        samples.old samples.new terms.old terms.new (Ok result) }
 {
     let samples_in = count_samples(COUNTS, file);
     let terms_in = count_terms(file);
     copy_words(file, 0, samples_in, samples);
     copy_words(file, WORD_BYTES * samples_in, terms_in, terms);
-    ReadAnswer::Read {
+    Sizes {
         samples: samples_in,
         terms: terms_in,
     }
@@ -272,15 +258,12 @@ fn fill_slices(file: &[u8], samples: &mut [u16], terms: &mut [u16]) -> ReadAnswe
 // them keep their values. Answers how many samples and terms there are. Refuses 15 for the file's length, 16 for its mark, 17
 // for its term distance, 18 for its sample distance, 7 and 8 of its terms, 9 of its samples, 6 where fewer elements are lent
 // for terms, and 10 where fewer are lent for samples, in this order; after a refusal neither slice has changed.
-pub fn read(file: &[u8], samples: &mut [u16], terms: &mut [u16]) -> ReadAnswer
+pub fn read(file: &[u8], samples: &mut [u16], terms: &mut [u16]) -> Result<Sizes, Refusal>
     ensures { Read file.now
         samples.old samples.new terms.old terms.new result }
 {
-    let checked = admit_read(COUNTS, file, samples.len(), terms.len());
-    if let Checked::Refused(refusal) = checked {
-        return ReadAnswer::Refused(refusal);
-    }
-    fill_slices(file, samples, terms)
+    admit_read(COUNTS, file, samples.len(), terms.len())?;
+    Ok(fill_slices(file, samples, terms))
 }
 
 // ---- writing
@@ -308,10 +291,8 @@ fn put_words(numbers: &[u16], at: usize, out: &mut [u8])
     requires { at + word_bytes * length numbers.now ≤ length out.old }
     ensures { out.new ≡ sets out.old at (in_words numbers.now) }
 {
-    let mut i = 0;
-    while i < numbers.len() {
+    for i in 0..numbers.len() {
         put_word(numbers[i], at + WORD_BYTES * i, out);
-        i += 1;
     }
 }
 
@@ -331,21 +312,16 @@ fn put_trailer(family: Family, samples: usize, terms: usize, out: &mut [u8])
     put_word(family.mark, end - MARK_FIELD, out);
 }
 
-// Whether a write of so many samples is to be refused, with so many bytes lent. The length needed is only computed of a form and a
+// Refuses what a write of so many samples refuses, with so many bytes lent. The length needed is only computed of a form and a
 // scan that are allowed, so that it cannot wrap.
-fn admit_write(family: Family, terms: &[u16], samples: usize, lent: usize) -> Checked
+#[tactic(auto, unfolding(crate::specs::Files::write_checked))]
+fn admit_write(family: Family, terms: &[u16], samples: usize, lent: usize) -> Result<(), Refusal>
     requires { Usable family }
     ensures { result ≡ write_checked family terms.now samples lent }
 {
-    let checked = refusals::or_else(
-        forms::check(WIDTH, terms),
-        refusals::check_scan(family.most, samples),
-    );
-    if let Checked::Refused(refusal) = checked {
-        return Checked::Refused(refusal);
-    }
-    let needed = file_length(family, samples, terms.len());
-    refusals::check_lent(needed, lent)
+    forms::check(WIDTH, terms)?;
+    refusals::check_scan(family.most, samples)?;
+    refusals::check_lent(file_length(family, samples, terms.len()), lent)
 }
 
 // Puts a whole file of counts.
@@ -359,15 +335,12 @@ fn fill_file(terms: &[u16], scan: &[u16], out: &mut [u8])
     put_trailer(COUNTS, scan.len(), terms.len(), out);
 }
 
-// Writes the file of a form and a scan to out, and answers its length. Refuses 7 and 8 of the terms, 9 of the scan, and
-// 10 where out is not exactly as long as the file, in this order; after a refusal out has not changed.
-pub fn write(terms: &[u16], scan: &[u16], out: &mut [u8]) -> Answer
+// Writes the file of a form and a scan to out, and answers its length. Refuses, in this order, a bad term, too many terms, the number of
+// samples, and an out that is not exactly as long as the file; after a refusal out has not changed.
+pub fn write(terms: &[u16], scan: &[u16], out: &mut [u8]) -> Result<usize, Refusal>
     ensures { Write terms.now scan.now out.old out.new result }
 {
-    let checked = admit_write(COUNTS, terms, scan.len(), out.len());
-    if let Checked::Refused(refusal) = checked {
-        return Answer::Refused(refusal);
-    }
+    admit_write(COUNTS, terms, scan.len(), out.len())?;
     fill_file(terms, scan, out);
-    Answer::Done(out.len())
+    Ok(out.len())
 }

@@ -3,7 +3,7 @@
 use Prim.Native.Nat.{ℕ}
 use mathlib.Core.Path.{◌≡◌, sym, ◌∙◌}
 use mathlib.Core.List.{List}
-use Rattle.refusals.specs.declared.Checked.{Checked}
+use Rattle.refusals.specs.Refusals.{Checked}
 use Rattle.forms.specs.Check.{form_checked}
 
 pub check_decided : (w : ℕ) (ts : List ℕ) (a b : Checked) → a ≡ form_checked w ts → b ≡ form_checked w ts → a ≡ b

@@ -9,7 +9,7 @@ ghost use Rattle.theory.specs.Forms.{contains_earlier, is_bad};
 ghost use Rattle.forms.specs.Check.{terms_checked, form_checked};
 
 use limits::MOST_TERMS;
-use refusals::{Checked, Refusal};
+use refusals::Refusal;
 
 // A term is a number of so many bits.
 const TERM_BITS: usize = 16;
@@ -30,57 +30,44 @@ fn contains_earlier(terms: &[u16], i: usize) -> bool
     ensures { result ≡ contains_earlier terms.now i }
 {
     let term = terms[i];
-    let mut j = 0;
-    while j < i {
+    for j in 0..i {
         if bits::is_within(terms[j], term) {
             return true;
         }
-        j += 1;
     }
     false
 }
 
 // Whether the term at i is one that refusal 7 names.
+#[tactic(auto, unfolding(theory::specs::Forms::is_bad))]
 fn is_bad(width: usize, terms: &[u16], i: usize) -> bool
     requires { i < length terms.now }
     ensures { result ≡ is_bad width terms.now i }
 {
-    let term = terms[i];
-    if is_over(width, term) {
-        return true;
-    }
-    if 0 < i {
-        if term <= terms[i - 1] {
-            return true;
-        }
-    }
-    contains_earlier(terms, i)
+    is_over(width, terms[i]) || (0 < i && terms[i] <= terms[i - 1]) || contains_earlier(terms, i)
 }
 
-// Refusal 7 at the first bad term. It stops there: a list of any length costs at most one look more than the longest form has terms.
-fn check_terms(width: usize, terms: &[u16]) -> Checked
+// Refuses the first bad term. It stops there: a list of any length costs at most one look more than the longest form has terms.
+#[tactic(auto, unfolding(crate::specs::Check::terms_checked))]
+fn check_terms(width: usize, terms: &[u16]) -> Result<(), Refusal>
     ensures { result ≡ terms_checked width terms.now }
 {
-    let mut i = 0;
-    while i < terms.len() {
+    for i in 0..terms.len() {
         if is_bad(width, terms, i) {
-            return Checked::Refused(Refusal {
-                number: refusals::BAD_TERM,
-                place: i,
-            });
+            return Err(Refusal::BadTerm(i));
         }
-        i += 1;
     }
-    Checked::Fine
+    Ok(())
 }
 
-// Whether a list of terms is a form of a window of so many positions. Refuses 7 at the first bad term, then 8 over 126 terms.
-pub fn check(width: usize, terms: &[u16]) -> Checked
+// Whether a list of terms is a form of a window of so many positions. Refuses the first bad term, then over 126 terms.
+#[tactic(auto, unfolding(crate::specs::Check::form_checked))]
+pub fn check(width: usize, terms: &[u16]) -> Result<(), Refusal>
     ensures { result ≡ form_checked width terms.now }
 {
-    let n = terms.len();
-    refusals::or_else(
-        check_terms(width, terms),
-        refusals::refuse_if(MOST_TERMS < n, refusals::TERM_COUNT, n),
-    )
+    check_terms(width, terms)?;
+    if terms.len() > MOST_TERMS {
+        return Err(Refusal::TermCount(terms.len()));
+    }
+    Ok(())
 }

@@ -1,5 +1,6 @@
 -- How large the numbers on a line can be: of a file of bytes whose length fits in 64 bits, every one of them does.
 -- Assumes nothing.
+use Rattle.std.specs.Prelude.{Ok, Err}
 use Prim.Native.Nat.{ℕ, ◌+◌, ◌-◌, ◌*◌, ◌^◌, ◌≤◌, ◌<◌}
 use native.Mathlib.Nat.{div-le_self}
 use native.Mathlib.Omega.{arith}
@@ -15,7 +16,6 @@ use Rattle.files.specs.Causes.{Bytes}
 use Rattle.files.proofs.Layouts.{terms_counted}
 use Rattle.files.proofs.Refused.{IfRefused, file_refused}
 use Rattle.reports.specs.declared.Counts.{Counts}
-use Rattle.reports.specs.declared.CountAnswer.TheVariants.{Counted, Refused}
 use Rattle.reports.specs.Counts.{file_counted}
 use Rattle.reports.proofs.Sums.{first_le}
 use Rattle.reports.proofs.Bounds.{Most, word_most}
@@ -23,12 +23,12 @@ use Rattle.totals.specs.declared.Outcome.TheVariants.{Opened}
 use Rattle.totals.proofs.Files.{by_count}
 use Rattle.lines.proofs.Fields.{Each, Fits, numbers_of}
 
-counts_fit : (c : Counts) → Most (top * most_samples) c → Each Fits (numbers_of (Opened (Counted c)))
+counts_fit : (c : Counts) → Most (top * most_samples) c → Each Fits (numbers_of (Opened (Ok c)))
 counts_fit c m =
     (omega (arith, m.samples), (omega (arith, m.changed), (omega (arith, m.spikes), (omega (arith, m.up), (omega (arith, m.down), tt)))))
 
 abbrev RefusalFits : Refusal → Type 0
-RefusalFits r = Each Fits (numbers_of (Opened (Refused r)))
+RefusalFits r = Each Fits (numbers_of (Opened (Err r)))
 
 module _ (f : List ℕ) (bytes : Bytes f) (fits : Fits (length f)) where
   samples_most : sample_count counts_family f < 2 ^ 32

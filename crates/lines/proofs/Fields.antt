@@ -1,9 +1,10 @@
 -- The fields of every line: words, then numbers. A law of lines is proved of lists of fields, and holds of each line by these.
 -- Assumes nothing.
+use Rattle.std.specs.Prelude.{Ok, Err}
+use Rattle.refusals.specs.Numbers.{number_of, place_of}
 use Prim.Native.Nat.{ℕ, ◌^◌, ◌<◌}
 use mathlib.Core.Path.{◌≡◌, refl}
 use mathlib.Core.List.{List, [], ◌∷◌, ◌++◌, map}
-use Rattle.reports.specs.declared.CountAnswer.TheVariants.{Counted, Refused}
 use Rattle.totals.specs.declared.Outcome.{Outcome}
 use Rattle.totals.specs.declared.Outcome.TheVariants.{Unopened, Opened}
 use Rattle.totals.specs.declared.Totals.{Totals}
@@ -41,19 +42,19 @@ each_field_lem P (word ∷ words) numbers w n = (w.0, each_field_lem P words num
 -- the words and the numbers of an outcome
 abbrev pub words_of : Outcome → List (List ℕ)
 words_of Unopened = unopened_word ∷ []
-words_of (Opened (Counted c)) = []
-words_of (Opened (Refused r)) = refused_word ∷ []
+words_of (Opened (Ok c)) = []
+words_of (Opened (Err r)) = refused_word ∷ []
 
 abbrev pub numbers_of : Outcome → List ℕ
 numbers_of Unopened = []
-numbers_of (Opened (Counted c)) = c.samples ∷ c.changed ∷ c.spikes ∷ c.up ∷ c.down ∷ []
-numbers_of (Opened (Refused r)) = r.number ∷ r.place ∷ []
+numbers_of (Opened (Ok c)) = c.samples ∷ c.changed ∷ c.spikes ∷ c.up ∷ c.down ∷ []
+numbers_of (Opened (Err r)) = number_of r ∷ place_of r ∷ []
 
 pub outcome_fields : (o : Outcome) → outcome_line o ≡ line_of (fields (words_of o) (numbers_of o))
 unfolding outcome_line unopened_line counts_line refused_line
 outcome_fields Unopened = refl
-outcome_fields (Opened (Counted c)) = refl
-outcome_fields (Opened (Refused r)) = refl
+outcome_fields (Opened (Ok c)) = refl
+outcome_fields (Opened (Err r)) = refl
 
 pub totals_fields : (t : Totals) → totals_line t ≡ line_of (fields [] (in_order t))
 unfolding totals_line

@@ -1,5 +1,6 @@
 -- Every byte of a field lies above the space, so it is neither a space nor a line feed.
 -- Assumes nothing.
+use Rattle.std.specs.Prelude.{Ok, Err}
 use Prim.Native.Nat.{ℕ, zero, suc, ◌/◌, ◌%◌, ◌<◌}
 use native.Mathlib.Omega.{arith}
 use mathlib.Core.Path.{◌≡◌}
@@ -9,7 +10,6 @@ use mathlib.Core.Logic.{◌⊎◌, inl, inr}
 use lib.Dec.{ltb}
 use Rattle.io.specs.Digits.{hex_digit_ascii, last_digits}
 use Rattle.theory.proofs.Tests.{which}
-use Rattle.reports.specs.declared.CountAnswer.TheVariants.{Counted, Refused}
 use Rattle.totals.specs.declared.Outcome.{Outcome}
 use Rattle.totals.specs.declared.Outcome.TheVariants.{Unopened, Opened}
 use Rattle.lines.specs.Lines.{digits_of, decimal, refused_word, unopened_word}
@@ -40,8 +40,8 @@ decimal_inside n = digits_inside (digits_of n) n
 pub words_inside : (o : Outcome) → Each (Each Inside) (words_of o)
 unfolding unopened_word refused_word
 words_inside Unopened = omega arith
-words_inside (Opened (Counted c)) = tt
-words_inside (Opened (Refused r)) = omega arith
+words_inside (Opened (Ok c)) = tt
+words_inside (Opened (Err r)) = omega arith
 
 pub fields_inside : (words : List (List ℕ)) (numbers : List ℕ) → Each (Each Inside) words → Each (Each Inside) (fields words numbers)
 fields_inside words numbers w = each_field_lem (Each Inside) words numbers w (each_all decimal_inside numbers)

@@ -1,5 +1,8 @@
 -- How long a line is: those of any file whose length, and of any totals that, fit in 64 bits have room in 128 and in 512 bytes.
 -- Assumes nothing.
+use Rattle.std.specs.Prelude.{Err}
+use Rattle.std.specs.Prelude.{Ok}
+use Rattle.refusals.specs.Refusals.{Checked}
 use Prim.Native.Nat.{ℕ, ◌+◌, ◌*◌, ◌^◌, ◌≤◌, ◌<◌}
 use native.Mathlib.Nat.{le_trans}
 use native.Mathlib.Omega.{arith}
@@ -8,12 +11,9 @@ use mathlib.Core.List.{List, [], ◌∷◌, ◌++◌}
 use lib.Dec.{lit≤}
 use lib.ListN.{length, drop, length-append}
 use Rattle.limits.specs.Limits.{line_bytes, totals_bytes}
-use Rattle.refusals.specs.declared.Checked.{Checked}
-use Rattle.refusals.specs.declared.Answer.TheVariants.{Done}
 use Rattle.refusals.specs.Promise.{Gives}
 use Rattle.refusals.proofs.Checks.{done_fine}
 use Rattle.files.specs.Causes.{Bytes}
-use Rattle.reports.specs.declared.CountAnswer.TheVariants.{Counted, Refused}
 use Rattle.reports.specs.Counts.{file_counted}
 use Rattle.totals.specs.declared.Outcome.{Outcome}
 use Rattle.totals.specs.declared.Outcome.TheVariants.{Unopened, Opened}
@@ -35,8 +35,8 @@ Short field = length field ≤ 20
 short_words : (o : Outcome) → Each Short (words_of o)
 unfolding unopened_word refused_word
 short_words Unopened = (lit≤ tt, tt)
-short_words (Opened (Counted c)) = tt
-short_words (Opened (Refused r)) = (lit≤ tt, tt)
+short_words (Opened (Ok c)) = tt
+short_words (Opened (Err r)) = (lit≤ tt, tt)
 
 -- a line of short fields: each has a byte behind it
 fields_most : (fs : List (List ℕ)) → Each Short fs → length (line_of fs) ≤ 21 * length fs + 1
@@ -52,8 +52,8 @@ line_most room words numbers w n h =
 
 few_fields : (o : Outcome) → 21 * length (fields (words_of o) (numbers_of o)) + 1 ≤ line_bytes
 few_fields Unopened = lit≤ tt
-few_fields (Opened (Counted c)) = lit≤ tt
-few_fields (Opened (Refused r)) = lit≤ tt
+few_fields (Opened (Ok c)) = lit≤ tt
+few_fields (Opened (Err r)) = lit≤ tt
 
 -- the line of any outcome whose numbers are of 64 bits has room in 128
 pub outcome_short : (o : Outcome) → Each Fits (numbers_of o) → length (outcome_line o) ≤ line_bytes
@@ -72,7 +72,7 @@ totals_short t h =
     rw (totals_fields t) (line_most totals_bytes [] (in_order t) tt each (lit≤ tt))
 
 -- a text that a call writes: where the slice keeps its length, as slices do, the answer lies in it
-pub line_fits : {check : ℕ → Checked} (text old new : List ℕ) (n : ℕ) → Gives check (length text) text old new (Done n)
+pub line_fits : {check : ℕ → Checked} (text old new : List ℕ) (n : ℕ) → Gives check (length text) text old new (Ok n)
     → length new ≡ length old → n ≤ length new
 line_fits {check} text old new n p same =
     let fine = done_fine (check (length old)) (length text) n p.answer in

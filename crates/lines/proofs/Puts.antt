@@ -1,5 +1,6 @@
 -- Texts put one behind the other are one text; put from a slice's start, it is what a call is to write.
 -- Assumes nothing.
+use Rattle.std.specs.Prelude.{Result, Ok}
 use mathlib.Core.Path.{◌≡◌, sym, ap, ◌∙◌}
 use mathlib.Core.List.{List, [], ◌∷◌, ◌++◌}
 use Prim.Native.Nat.{ℕ}
@@ -9,13 +10,7 @@ use lib.ListN.{length, length-append}
 use lib.Seq.{sets, sets-eq, length-sets, append_snoc}
 use Rattle.theory.proofs.Slices.{sets_next}
 use Rattle.refusals.specs.declared.Refusal.{Refusal}
-use Rattle.refusals.specs.declared.Checked.{Checked}
-use Rattle.refusals.specs.declared.Checked.TheVariants.{Fine}
-use Rattle.refusals.specs.declared.Checked.TheVariants as checked
-use Rattle.refusals.specs.declared.Answer.TheVariants.{Done}
-use Rattle.refusals.specs.declared.Answer.TheVariants as answer
 use Rattle.refusals.specs.Shared.{lent_checked}
-use Rattle.refusals.proofs.Shared.{lent_fine}
 use Rattle.lines.specs.Lines.{Writes}
 use Rattle.lines.specs.Private.{Put}
 
@@ -36,20 +31,12 @@ put_next {at} {k} {r} {old} {mid} {new} field end rest p q =
 
 -- what a call that writes a line has to show, by what the check of the slice said of its length
 
-pub lent_room : {room lent : ℕ} {c : Checked} → c ≡ lent_checked room lent → c ≡ Fine → lent ≡ room
-lent_room {room} {lent} e told = lent_fine room lent (sym e ∙ told)
-
--- refused: the slice is as it was
-pub refused_writes : (room : ℕ) {text old : List ℕ} {c : Checked} {r : Refusal} → c ≡ lent_checked room (length old) → c ≡ checked.Refused r
-    → Writes room text old old (answer.Refused r)
-refused_writes room e told = let why = sym e ∙ told in record { answer = rw why; out = rw why }
-
 -- fine: the line is put from its start
-pub put_writes : (room : ℕ) {n : ℕ} {text old new : List ℕ} {c : Checked} → c ≡ lent_checked room (length old) → c ≡ Fine
-    → Put text 0 old new n → Writes room text old new (Done n)
-put_writes room {text = text} {old} e told p =
-    let fine = sym e ∙ told in
+pub put_writes : (room : ℕ) {n : ℕ} {text old new : List ℕ} → lent_checked room (length old) ≡ Ok tt
+    → Put text 0 old new n → Writes room text old new (Ok n)
+put_writes room {n} {text} {old} fine p =
+    let told : ℕ → Result ℕ Refusal = λ k. Ok k in
     record {
-      answer = rw fine (ap Done (p.next ∙ zero-add (length text)));
+      answer = rw fine (ap told (p.next ∙ zero-add (length text)));
       out = rw fine (p.out ∙ sets-eq text old 0 (omega (arith, p.next, p.room)) ∙ rw (zero-add (length text)));
     }

@@ -1,15 +1,16 @@
 -- The lines that the report program and the night sheet print: "Single spaces stand between fields and one line feed at the end." Bytes
 -- are ASCII.
+use Rattle.std.specs.Prelude.{Ok, Err}
+use Rattle.refusals.specs.Numbers.{number_of, place_of}
+use Rattle.std.specs.Prelude.{Result}
 use Rattle.std.specs.Prelude.{ℕ, suc, ◌^◌, List, [], ◌∷◌, ◌++◌, map, ltb, length}
 use Rattle.io.specs.Digits.{last_digits}
 use Rattle.limits.specs.Limits.{line_bytes}
 use Rattle.theory.specs.Lists.{first}
 use Rattle.refusals.specs.declared.Refusal.{Refusal}
-use Rattle.refusals.specs.declared.Answer.{Answer}
 use Rattle.refusals.specs.Shared.{lent_checked}
 use Rattle.refusals.specs.Promise.{Gives}
 use Rattle.reports.specs.declared.Counts.{Counts}
-use Rattle.reports.specs.declared.CountAnswer.TheVariants.{Counted, Refused}
 use Rattle.reports.specs.Counts.{file_counted}
 use Rattle.totals.specs.declared.Outcome.{Outcome}
 use Rattle.totals.specs.declared.Outcome.TheVariants.{Unopened, Opened}
@@ -40,7 +41,7 @@ refused_word = 114 ∷ 101 ∷ 102 ∷ 117 ∷ 115 ∷ 101 ∷ 100 ∷ []
 
 -- `refused`, number, place
 unfoldable pub refused_line : Refusal → List ℕ
-refused_line r = line_of (refused_word ∷ decimal r.number ∷ decimal r.place ∷ [])
+refused_line r = line_of (refused_word ∷ decimal (number_of r) ∷ decimal (place_of r) ∷ [])
 
 -- the word `unopened`
 unfoldable pub unopened_word : List ℕ
@@ -53,8 +54,8 @@ unopened_line = line_of (unopened_word ∷ [])
 -- the night sheet's line of a file: `unopened`, its counts, or why it is refused
 unfoldable pub outcome_line : Outcome → List ℕ
 outcome_line Unopened = unopened_line
-outcome_line (Opened (Counted c)) = counts_line c
-outcome_line (Opened (Refused r)) = refused_line r
+outcome_line (Opened (Ok c)) = counts_line c
+outcome_line (Opened (Err r)) = refused_line r
 
 -- the report's line of the file f: that of what counting it answers
 abbrev pub report_line : List ℕ → List ℕ
@@ -72,9 +73,9 @@ unfoldable pub totals_line : Totals → List ℕ
 totals_line t = line_of (map decimal (in_order t))
 
 -- a line from the start of the slice lent, and its length; 10 where the slice has another length than the room that it wants
-abbrev pub Writes : ℕ → List ℕ → List ℕ → List ℕ → Answer → Type 0
+abbrev pub Writes : ℕ → List ℕ → List ℕ → List ℕ → Result ℕ Refusal → Type 0
 Writes room text = Gives (lent_checked room) (length text) text
 
 -- the line of a file
-abbrev pub Line : List ℕ → List ℕ → List ℕ → Answer → Type 0
+abbrev pub Line : List ℕ → List ℕ → List ℕ → Result ℕ Refusal → Type 0
 Line f = Writes line_bytes (report_line f)

@@ -11,8 +11,8 @@ ghost use Rattle.lines.specs.Lines.{decimal, line_of, counts_line, refused_line,
 ghost use Rattle.lines.specs.Private.{Put};
 
 use limits::{LINE_BYTES, TOTALS_BYTES};
-use refusals::{Answer, Checked, Refusal};
-use reports::{CountAnswer, Counts};
+use refusals::Refusal;
+use reports::Counts;
 use totals::{Outcome, Totals};
 
 const SPACE: u8 = b' ';
@@ -81,20 +81,20 @@ fn put_refusal(refusal: Refusal, out: &mut [u8]) -> usize
     requires { length out.old ≡ line_bytes }
     ensures { Put (refused_line refusal) 0 out.old out.new result }
 {
-    let number = refusal.number as u64;
-    let place = refusal.place as u64;
+    let number = refusal.number() as u64;
+    let place = refusal.place() as u64;
     let at = put_field(b"refused", SPACE, 0, out);
     put_numbers(&[number, place], at, out)
 }
 
 // Puts the line of what a count answered, and answers its length.
-fn put_answer(answer: CountAnswer, out: &mut [u8]) -> usize
+fn put_answer(answer: Result<Counts, Refusal>, out: &mut [u8]) -> usize
     requires { length out.old ≡ line_bytes }
     ensures { Put (outcome_line (Opened answer)) 0 out.old out.new result }
 {
     match answer {
-        CountAnswer::Counted(counts) => put_counts(counts, out),
-        CountAnswer::Refused(refusal) => put_refusal(refusal, out),
+        Ok(counts) => put_counts(counts, out),
+        Err(refusal) => put_refusal(refusal, out),
     }
 }
 
@@ -141,38 +141,32 @@ fn put_totals(totals: Totals, out: &mut [u8]) -> usize
 
 // Writes the night sheet's line of a file: `unopened`, the five counts, or `refused`, number, place.
 // Refuses 10 where the slice has not 128 bytes, more than any such line has.
-pub fn outcome_line(outcome: Outcome, out: &mut [u8]) -> Answer
+pub fn outcome_line(outcome: Outcome, out: &mut [u8]) -> Result<usize, Refusal>
     ensures { Writes line_bytes (outcome_line outcome) out.old out.new result }
 {
-    let checked = refusals::check_lent(LINE_BYTES, out.len());
-    if let Checked::Refused(refusal) = checked {
-        return Answer::Refused(refusal);
-    }
-    Answer::Done(put_outcome(outcome, out))
+    refusals::check_lent(LINE_BYTES, out.len())?;
+    Ok(put_outcome(outcome, out))
 }
 
 // Writes the line of a refused list, which is that of a refused file: `refused`, number, place. Refuses 10 as outcome_line does.
-pub fn refused_line(refusal: Refusal, out: &mut [u8]) -> Answer
+pub fn refused_line(refusal: Refusal, out: &mut [u8]) -> Result<usize, Refusal>
     ensures { Writes line_bytes (refused_line refusal) out.old out.new result }
 {
-    outcome_line(Outcome::Opened(CountAnswer::Refused(refusal)), out)
+    outcome_line(Outcome::Opened(Err(refusal)), out)
 }
 
 // Writes the line that the report program prints of a file: the five counts, or `refused`, number, place. It never refuses the file.
 // Refuses 10 as outcome_line does.
-pub fn line(file: &[u8], out: &mut [u8]) -> Answer
+pub fn line(file: &[u8], out: &mut [u8]) -> Result<usize, Refusal>
     ensures { Line file.now out.old out.new result }
 {
     outcome_line(Outcome::Opened(reports::count(file)), out)
 }
 
 // Writes the night sheet's last line: its totals. Refuses 10 where the slice has not 512 bytes, more than any such line has.
-pub fn totals_line(totals: Totals, out: &mut [u8]) -> Answer
+pub fn totals_line(totals: Totals, out: &mut [u8]) -> Result<usize, Refusal>
     ensures { Writes totals_bytes (totals_line totals) out.old out.new result }
 {
-    let checked = refusals::check_lent(TOTALS_BYTES, out.len());
-    if let Checked::Refused(refusal) = checked {
-        return Answer::Refused(refusal);
-    }
-    Answer::Done(put_totals(totals, out))
+    refusals::check_lent(TOTALS_BYTES, out.len())?;
+    Ok(put_totals(totals, out))
 }

@@ -13,9 +13,10 @@ use borrow.Author.Tests.{ltb-true, lt-ltb}
 use Rattle.limits.specs.Limits.{most_names}
 use Rattle.theory.specs.Lists.{first, any_below}
 use Rattle.theory.proofs.Tests.{which, not_both}
-use Rattle.refusals.specs.declared.Checked.TheVariants.{Fine, Refused}
-use Rattle.refusals.specs.Refusals.{refusal, refuse_if}
-use Rattle.refusals.proofs.Checks.{refuse_no, or_else_fine}
+use Rattle.std.specs.Prelude.{Ok, Err}
+use Rattle.refusals.specs.declared.Refusal.TheVariants.{BadName, NameCount}
+use Rattle.refusals.specs.Refusals.{refuse_if}
+use Rattle.refusals.proofs.Checks.{refuse_no, and_then_fine}
 use Rattle.lists.specs.declared.Judge.{Judge}
 use Rattle.lists.specs.Names.{is_line_end, lines_of, is_bad_length, is_bad_line, list_checked}
 use Rattle.lists.specs.Judge.{fresh, ended, grown, closed, is_over, stepped, judged, verdict_of}
@@ -81,9 +82,9 @@ tells j (x ∷ text) = go (which (is_over j)) (which (is_line_end x)) (tells (en
 -- ---- the whole text
 
 -- where nothing is refused, line 251 has not begun
-pub fine_not_over : (j : Judge) → verdict_of j ≡ Fine → is_over j ≡ false
+pub fine_not_over : (j : Judge) → verdict_of j ≡ Ok tt → is_over j ≡ false
 unfolding verdict_of
-fine_not_over j e = refuse_no (is_over j) 20 most_names (or_else_fine (refuse_if (is_over j) 20 most_names) _ e).0
+fine_not_over j e = refuse_no (is_over j) (NameCount most_names) (and_then_fine (refuse_if (is_over j) (NameCount most_names)) _ e).0
 
 told : (text : List ℕ) → Tells fresh (judged fresh text) (map is_bad (lines_of text))
 told text = rw (flags_text text) at (tells fresh text)
@@ -96,9 +97,9 @@ many_lines : (text : List ℕ) → is_over (judged fresh text) ≡ ltb most_name
 many_lines text = (told text).over ∙ ap (ltb most_names) (zero-add _ ∙ length-map (lines_of text) is_bad)
 
 -- a place that is 0 where nothing is refused
-by_place : (b : Bool) (n k : ℕ) → refuse_if (ltb 0 (cond b (k + 1) 0)) n (cond b (k + 1) 0) ≡ refuse_if b n (k + 1)
-by_place true n k = rw (lt-ltb 0 (k + 1) (omega arith))
-by_place false n k = refl
+by_place : (b : Bool) (k : ℕ) → refuse_if (ltb 0 (cond b (k + 1) 0)) (BadName (cond b (k + 1) 0)) ≡ refuse_if b (BadName (k + 1))
+by_place true k = rw (lt-ltb 0 (k + 1) (omega arith))
+by_place false k = refl
 
 pub verdict_whole : (text : List ℕ) → verdict_of (judged fresh text) ≡ list_checked text
 unfolding verdict_of list_checked
@@ -111,7 +112,7 @@ verdict_whole text = go (which (is_over (judged fresh text)))
     go (inl o) = rw (← many_lines text, o)
     go (inr o) =
         rw (← many_lines text, o, (told text).mark o ∙ marks_first 0 lines, zero-add (first (is_bad_line lines) (length lines)))
-        (by_place (any_below (is_bad_line lines) (length lines)) 19 (first (is_bad_line lines) (length lines)))
+        (by_place (any_below (is_bad_line lines) (length lines)) (first (is_bad_line lines) (length lines)))
 
 -- ---- piece by piece
 
@@ -136,8 +137,8 @@ over_begins pieces = ap is_over (judged_pieces fresh pieces) ∙ many_lines (fla
 
 -- then the verdict is 20 at 250, and the whole text's is, whatever follows: so no more need be read
 pub over_stays : (pieces : List (List ℕ)) (more : List ℕ) → is_over (foldl judged fresh pieces) ≡ true
-    → (verdict_of (foldl judged fresh pieces) ≡ Refused (refusal 20 most_names))
-    × (list_checked (flatten pieces ++ more) ≡ Refused (refusal 20 most_names))
+    → (verdict_of (foldl judged fresh pieces) ≡ Err (NameCount most_names))
+    × (list_checked (flatten pieces ++ more) ≡ Err (NameCount most_names))
 unfolding verdict_of
 over_stays pieces more e =
     let o = sym (ap is_over (judged_pieces fresh pieces)) ∙ e in (

@@ -13,9 +13,10 @@ use Rattle.limits.specs.Limits.{most_names, longest_name, longest_list}
 use Rattle.theory.specs.Lists.{first, any_below}
 use Rattle.theory.proofs.Tests.{which, or_no_right}
 use Rattle.theory.proofs.Lists.{any_below_no}
-use Rattle.refusals.specs.declared.Checked.TheVariants.{Fine}
+use Rattle.std.specs.Prelude.{Ok}
+use Rattle.refusals.specs.declared.Refusal.TheVariants.{BadName, NameCount}
 use Rattle.refusals.specs.Refusals.{refuse_if}
-use Rattle.refusals.proofs.Checks.{refuse_no, or_else_fine}
+use Rattle.refusals.proofs.Checks.{refuse_no, and_then_fine}
 use Rattle.lists.specs.Names.{lengthened, is_line_end, lines_of, is_bad_length, is_bad_line, list_checked}
 
 -- the bytes of some lines, each with a line end
@@ -50,18 +51,18 @@ size_good (line ∷ lines) f =
     omega (arith, good_length (length line) (f zero (suc-le-suc zero-le)), size_good lines (λ k h. f (suc k) (suc-le-suc h)))
 
 -- where nothing is refused there are at most 250 lines, and none is bad
-pub fine_lines : (text : List ℕ) → list_checked text ≡ Fine
+pub fine_lines : (text : List ℕ) → list_checked text ≡ Ok tt
     → (length (lines_of text) ≤ most_names) × ((k : ℕ) → k < length (lines_of text) → is_bad_line (lines_of text) k ≡ false)
 unfolding list_checked
 fine_lines text e =
     let n = length (lines_of text) in
     let bad = is_bad_line (lines_of text) in
-    let both = or_else_fine (refuse_if (ltb most_names n) 20 most_names) _ e in (
-      ltb-false most_names n (refuse_no (ltb most_names n) 20 most_names both.0),
-      any_below_no bad n (refuse_no (any_below bad n) 19 (first bad n + 1) both.1),
+    let both = and_then_fine (refuse_if (ltb most_names n) (NameCount most_names)) _ e in (
+      ltb-false most_names n (refuse_no (ltb most_names n) (NameCount most_names) both.0),
+      any_below_no bad n (refuse_no (any_below bad n) (BadName (first bad n + 1)) both.1),
     )
 
-pub accepted_short : (text : List ℕ) → list_checked text ≡ Fine → length text ≤ longest_list
+pub accepted_short : (text : List ℕ) → list_checked text ≡ Ok tt → length text ≤ longest_list
 accepted_short text e =
     let fine = fine_lines text e in
     omega (arith, text_size text, size_good (lines_of text) fine.1)

@@ -2,8 +2,8 @@
 -- text, however the text is cut, is the law `cut_anywhere` (lists/proofs/Cuts).
 use Rattle.std.specs.Prelude.{ℕ, ◌+◌, Bool, cond, ◌&&◌, List, [], ◌∷◌, eqb, leb, ltb}
 use Rattle.limits.specs.Limits.{most_names, longest_name}
-use Rattle.refusals.specs.declared.Checked.{Checked}
-use Rattle.refusals.specs.Refusals.{refuse_if, or_else}
+use Rattle.refusals.specs.declared.Refusal.TheVariants.{BadName, NameCount}
+use Rattle.refusals.specs.Refusals.{Checked, refuse_if, and_then}
 use Rattle.lists.specs.declared.Judge.{Judge}
 use Rattle.lists.specs.Names.{is_line_end, is_bad_length}
 
@@ -42,4 +42,4 @@ judged j (b ∷ piece) = judged (stepped j b) piece
 
 -- the verdict on a text that ends here: 20 where line 251 has begun; else 19 at the first bad line
 unfoldable pub verdict_of : Judge → Checked
-verdict_of j = or_else (refuse_if (is_over j) 20 most_names) (refuse_if (ltb 0 (closed j).bad) 19 (closed j).bad)
+verdict_of j = and_then (refuse_if (is_over j) (NameCount most_names)) (refuse_if (ltb 0 (closed j).bad) (BadName (closed j).bad))

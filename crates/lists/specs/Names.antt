@@ -2,9 +2,10 @@
 use Rattle.std.specs.Prelude.{ℕ, ◌+◌, ◌-◌, ◌≡◌, Bool, cond, ◌||◌, List, [], ◌∷◌, eqb, ltb, length, get_or}
 use Rattle.limits.specs.Limits.{most_names, longest_name}
 use Rattle.theory.specs.Lists.{first, any_below}
-use Rattle.refusals.specs.declared.Checked.{Checked}
-use Rattle.refusals.specs.declared.Answer.{Answer}
-use Rattle.refusals.specs.Refusals.{refuse_if, or_else, answer_of}
+use Rattle.std.specs.Prelude.{Result, Ok}
+use Rattle.refusals.specs.declared.Refusal.{Refusal}
+use Rattle.refusals.specs.declared.Refusal.TheVariants.{BadName, NameCount}
+use Rattle.refusals.specs.Refusals.{Checked, refuse_if, and_then}
 
 -- a byte that ends a line: a line feed
 abbrev pub is_line_end : ℕ → Bool
@@ -33,11 +34,11 @@ unfoldable pub list_checked : List ℕ → Checked
 list_checked text =
     let bad = is_bad_line (lines_of text) in
     let n = length (lines_of text) in
-    or_else (refuse_if (ltb most_names n) 20 most_names) (refuse_if (any_below bad n) 19 (first bad n + 1))
+    and_then (refuse_if (ltb most_names n) (NameCount most_names)) (refuse_if (any_below bad n) (BadName (first bad n + 1)))
 
 -- checking a list: the number of its names, or why it is refused
-abbrev pub CheckList : List ℕ → Answer → Type 0
-CheckList text r = r ≡ answer_of (list_checked text) (length (lines_of text))
+abbrev pub CheckList : List ℕ → Result ℕ Refusal → Type 0
+CheckList text r = r ≡ and_then (list_checked text) (Ok (length (lines_of text)))
 
 -- where the line ends that begins at a place of the text: at its line feed, or else at the text's end; a place beyond the text is
 -- its own end

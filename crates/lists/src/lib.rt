@@ -11,7 +11,7 @@ ghost use Rattle.lists.specs.Names.{is_line_end, is_bad_length, CheckList, line_
 ghost use Rattle.lists.specs.Judge.{fresh, ended, grown, closed, is_over, stepped, judged, verdict_of};
 
 use limits::{LONGEST_NAME, MOST_NAMES};
-use refusals::{Answer, Checked, Refusal};
+use refusals::Refusal;
 
 const LINE_FEED: u8 = b'\n';
 
@@ -118,38 +118,36 @@ pub fn judge_piece(before: Judge, piece: &[u8]) -> Judge
     ensures { result ≡ judged before piece.now }
 {
     let mut so_far = before;
-    let mut i = 0;
-    while i < piece.len() {
+    for i in 0..piece.len() {
         so_far = step(so_far, piece[i]);
-        i += 1;
     }
     so_far
 }
 
-// The verdict on a list that ends here: refuses 20 for over 250 lines, then 19 for the first line that is empty or too long.
-pub fn verdict(judge: Judge) -> Checked
+// The verdict on a list that ends here: refuses over 250 lines, then the first line that is empty or too long.
+#[tactic(auto, unfolding(crate::specs::Judge::verdict_of))]
+pub fn verdict(judge: Judge) -> Result<(), Refusal>
     ensures { result ≡ verdict_of judge }
 {
     if is_over(judge) {
-        return Checked::Refused(Refusal {
-            number: refusals::NAME_COUNT,
-            place: MOST_NAMES,
-        });
+        return Err(Refusal::NameCount(MOST_NAMES));
     }
-    let whole = close(judge);
-    refusals::refuse_if(0 < whole.bad, refusals::BAD_NAME, whole.bad)
+    let bad = close(judge).bad;
+    if 0 < bad {
+        return Err(Refusal::BadName(bad));
+    }
+    Ok(())
 }
 
-// Checks a list that is at hand whole, and answers the number of its names. Refuses 20, then 19.
-pub fn check(text: &[u8]) -> Answer
+// Checks a list that is at hand whole, and answers the number of its names. Refuses over 250 lines, then the first line that is empty or
+// too long.
+#[tactic(auto, using(crate::proofs::Cuts::verdict_whole))]
+pub fn check(text: &[u8]) -> Result<usize, Refusal>
     ensures { CheckList text.now result }
 {
     let whole = judge_piece(start(), text);
-    let checked = verdict(whole);
-    match checked {
-        Checked::Fine => Answer::Done(close(whole).lines),
-        Checked::Refused(refusal) => Answer::Refused(refusal),
-    }
+    verdict(whole)?;
+    Ok(close(whole).lines)
 }
 
 // Where the line ends that begins at a place: at its line feed, or else at the end of the text.

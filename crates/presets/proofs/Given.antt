@@ -8,7 +8,8 @@ use borrow.Author.Tests.{lt-leb}
 use Rattle.limits.specs.Limits.{width, table_bytes, presets}
 use Rattle.theory.specs.Forms.{Positive}
 use Rattle.theory.specs.Tables.{table_of}
-use Rattle.refusals.specs.declared.Answer.{Answer}
+use Rattle.std.specs.Prelude.{Result}
+use Rattle.refusals.specs.declared.Refusal.{Refusal}
 use Rattle.tables.specs.Tables.{TableToForm}
 use Rattle.tables.proofs.Tabulated.{tabulated_gives}
 use Rattle.presets.specs.Presets.{preset_tables, near_in, on_window, preset_form, preset_checked, Preset}
@@ -21,7 +22,7 @@ unfolding on_window
 preset_positive i h u v l q e = entry_positive i h (near_in u) (near_in v) (near_lt v) (near_within u v q) e
 
 -- what table to form makes of the table of its function is the preset
-pub formed_preset : (i : ℕ) (old new : List ℕ) (r : Answer) → i < presets
+pub formed_preset : (i : ℕ) (old new : List ℕ) (r : Result ℕ Refusal) → i < presets
     → TableToForm (table_of table_bytes (on_window (get_or preset_tables i 0))) old new r → Preset i old new r
 unfolding preset_form preset_checked
 formed_preset i old new r h formed =

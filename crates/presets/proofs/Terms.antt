@@ -16,8 +16,8 @@ use Rattle.theory.specs.Forms.{holds, Valid, Positive, minimal, form_of}
 use Rattle.theory.proofs.Lists.{all_at, map_from, index_mem}
 use Rattle.theory.proofs.Forms.{Terms}
 use Rattle.theory.proofs.Canon.{valid_terms, form_valid, form_cong, form_of_holds, holds_form}
-use Rattle.refusals.specs.declared.Answer.{Answer}
-use Rattle.refusals.specs.declared.Answer.TheVariants.{Done}
+use Rattle.std.specs.Prelude.{Result, Ok}
+use Rattle.refusals.specs.declared.Refusal.{Refusal}
 use Rattle.refusals.proofs.Shared.{fine_room}
 use Rattle.presets.specs.Presets.{three, preset_tables, near_in, on_window, preset_form, preset_checked, Preset}
 use Rattle.presets.proofs.Nearest.{near_lt, moved, near_moved, within_moved}
@@ -79,7 +79,7 @@ preset_few i l =
     omega (arith, ap length (preset_moved i l), length-map F moved)
 
 -- so three elements lent are always enough
-pub three_enough : {i : ℕ} {old new : List ℕ} {r : Answer} → i < presets → 3 ≤ length old → Preset i old new r → r ≡ Done (length (preset_form i))
+pub three_enough : {i : ℕ} {old new : List ℕ} {r : Result ℕ Refusal} → i < presets → 3 ≤ length old → Preset i old new r → r ≡ Ok (length (preset_form i))
 unfolding preset_checked
 three_enough {i} {old} l room p =
     rw (lt-leb presets i (omega arith), fine_room (length (preset_form i)) (length old) (omega (arith, preset_few i l))) at p.answer

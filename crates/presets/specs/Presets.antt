@@ -5,11 +5,12 @@ use Rattle.limits.specs.Limits.{width, presets}
 use Rattle.theory.specs.Sets.{has, gather}
 use Rattle.theory.specs.Forms.{form_of}
 use Rattle.theory.specs.Signals.{window, spread}
-use Rattle.refusals.specs.Refusals.{refuse_if, or_else}
+use Rattle.std.specs.Prelude.{Result}
+use Rattle.refusals.specs.declared.Refusal.{Refusal}
+use Rattle.refusals.specs.declared.Refusal.TheVariants.{PresetNumber}
+use Rattle.refusals.specs.Refusals.{Checked, refuse_if, and_then}
 use Rattle.refusals.specs.Shared.{room_checked}
 use Rattle.refusals.specs.Promise.{Gives}
-use Rattle.refusals.specs.declared.Checked.{Checked}
-use Rattle.refusals.specs.declared.Answer.{Answer}
 
 -- window three: the samples x1, x2, x3
 abbrev pub three : ℕ
@@ -38,8 +39,8 @@ preset_form i = form_of width (on_window (get_or preset_tables i 0))
 
 -- 14, 6
 unfoldable pub preset_checked : ℕ → ℕ → Checked
-preset_checked i lent = or_else (refuse_if (leb presets i) 14 i) (room_checked (length (preset_form i)) lent)
+preset_checked i lent = and_then (refuse_if (leb presets i) (PresetNumber i)) (room_checked (length (preset_form i)) lent)
 
 -- the number of terms, and the form from the start of the slice lent
-abbrev pub Preset : ℕ → List ℕ → List ℕ → Answer → Type 0
+abbrev pub Preset : ℕ → List ℕ → List ℕ → Result ℕ Refusal → Type 0
 Preset i old new r = Gives (preset_checked i) (length (preset_form i)) (preset_form i) old new r

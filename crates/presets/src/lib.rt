@@ -10,7 +10,7 @@ ghost use Rattle.theory.specs.Tables.{table_of};
 ghost use Rattle.presets.specs.Presets.{preset_tables, on_window, Preset};
 
 use limits::{PRESETS, TABLE_BYTES};
-use refusals::{Answer, Refusal};
+use refusals::Refusal;
 
 // Window three has so many samples, and they have so many patterns.
 const THREE: usize = 3;
@@ -24,6 +24,7 @@ const TABLES: [u8; PRESETS] = [
 ];
 
 // The 8-bit table of a preset.
+#[tactic(auto, unfolding(crate::specs::Presets::preset_tables))]
 fn look_up(number: usize) -> u8
     requires { number < presets }
     ensures { result ≡ get_or preset_tables number 0 }
@@ -44,26 +45,21 @@ fn tabulate(small: u8) -> [u8; TABLE_BYTES]
     ensures { result ≡ table_of table_bytes (on_window small) }
 {
     let mut table = [0u8; TABLE_BYTES];
-    let mut j: usize = 0;
-    while j < TABLE_BYTES {
+    for j in 0..TABLE_BYTES {
         table[j] = repeat(bits::has(small as usize, j % THREE_PATTERNS));
-        j += 1;
     }
     table
 }
 
 // A preset's form: answers the number of terms, and writes the form from the start of `terms`.
-// Refuses 14 where the number is over 19, then 6 where fewer elements are lent than the form has terms.
-#[tactic(auto, unfolding(crate::specs::Presets::preset_checked), using(tables::proofs::Accepted::gives_refused))]
-pub fn preset(number: u64, terms: &mut [u16]) -> Answer
+// Refuses a number over 19, then fewer elements lent than the form has terms.
+#[tactic(auto, unfolding(crate::specs::Presets::preset_checked))]
+pub fn preset(number: u64, terms: &mut [u16]) -> Result<usize, Refusal>
     ensures { Preset number terms.old terms.new result }
 {
     let i = number as usize;
     if PRESETS <= i {
-        return Answer::Refused(Refusal {
-            number: refusals::PRESET_NUMBER,
-            place: i,
-        });
+        return Err(Refusal::PresetNumber(i));
     }
     let table = tabulate(look_up(i));
     tables::table_to_form(&table, terms)

@@ -1,6 +1,8 @@
 -- What an accepted recipe goes through: each step is decoded, acts on the plans held and stays in reach, and one plan is left, which
 -- fits the window.
 -- Assumes nothing.
+use Rattle.std.specs.Prelude.{Result, Ok, Err}
+use Rattle.refusals.specs.Refusals.{Checked}
 use mathlib.Core.Path.{◌≡◌, refl, ap, subst}
 use mathlib.Core.Bool.{Bool, true, false, cond}
 use mathlib.Core.List.{List, [], ◌∷◌, map}
@@ -19,12 +21,8 @@ use Rattle.theory.proofs.Plans.{Plan, hi}
 use Rattle.theory.proofs.Tests.{which, and_left, and_right}
 use Rattle.theory.proofs.Truth.{Fits}
 use Rattle.refusals.specs.declared.Refusal.{Refusal}
-use Rattle.refusals.specs.declared.Checked.{Checked}
-use Rattle.refusals.specs.declared.Checked.TheVariants.{Fine, Refused}
 use Rattle.recipes.specs.declared.Step.{Step}
 use Rattle.recipes.specs.declared.Step.TheVariants.{Signal, Erode, Dilate, Open, Close, Rank, Median, Larger, Smaller}
-use Rattle.recipes.specs.declared.Decoded.{Decoded}
-use Rattle.recipes.specs.declared.Decoded.TheVariants.{Good, Bad}
 use Rattle.recipes.specs.declared.Reach.{Reach}
 use Rattle.recipes.specs.Steps.{step_at}
 use Rattle.recipes.specs.Machine.{added, replaced, joined, act, reaches}
@@ -36,8 +34,8 @@ use Rattle.recipes.proofs.Plans.{plans, fold, folds, plan_of, act-fold}
 use Rattle.recipes.proofs.Reaches.{in_near, fold-reaches}
 
 -- what is refused is not fine
-never : {X : Type 0} {why : Refusal} → Refused why ≡ Fine → X
-never h = let z : ◌≡◌ {A = ℕ} 0 1 = cc in absurd (omega arith)
+never : {X : Type 0} {why : Refusal} → ◌≡◌ {A = Checked} (Err why) (Ok tt) → X
+never h = absurd (cc)
 
 -- the reaches of the plans held
 abbrev pub reaches_of : List Plan → List Reach
@@ -54,36 +52,36 @@ record FineStep (r : List ℕ) (m i : ℕ) (st : List Plan) : Type 0 where
   -- the step, and the plans held after it
   pub step : Step
   pub after : List Plan
-  pub decoded : step_at r i ≡ Good step
+  pub decoded : step_at r i ≡ Ok step
   pub acted : act plans step st ≡ some after
   pub last : last_in (reaches_of after) ≡ true
-  pub fine : judged_from r m (i + 1) (reaches_of after) ≡ Fine
+  pub fine : judged_from r m (i + 1) (reaches_of after) ≡ Ok tt
 
-fine_step : (r : List ℕ) (m i : ℕ) (st : List Plan) → judged_from r (suc m) i (reaches_of st) ≡ Fine → FineStep r m i st
+fine_step : (r : List ℕ) (m i : ℕ) (st : List Plan) → judged_from r (suc m) i (reaches_of st) ≡ Ok tt → FineStep r m i st
 unfolding judged_from stepped onward folds
 fine_step r m i st = decode (step_at r i) refl
   where
     next : List Reach → Checked
     next = judged_from r m (i + 1)
 
-    test : (s : Step) (after : List Plan) → step_at r i ≡ Good s → act plans s st ≡ some after
-        → (last_in (reaches_of after) ≡ true) ⊎ (last_in (reaches_of after) ≡ false) → onward i (some (reaches_of after)) next ≡ Fine
+    test : (s : Step) (after : List Plan) → step_at r i ≡ Ok s → act plans s st ≡ some after
+        → (last_in (reaches_of after) ≡ true) ⊎ (last_in (reaches_of after) ≡ false) → onward i (some (reaches_of after)) next ≡ Ok tt
         → FineStep r m i st
     test s after d a (inl t) h = record { step = s; after = after; decoded = d; acted = a; last = t; fine = rw t at h }
     test s after d a (inr t) h = never (rw t at h)
 
-    turn : (s : Step) → step_at r i ≡ Good s → (o : Option (List Plan)) → act plans s st ≡ o → onward i (folds reaches o) next ≡ Fine
+    turn : (s : Step) → step_at r i ≡ Ok s → (o : Option (List Plan)) → act plans s st ≡ o → onward i (folds reaches o) next ≡ Ok tt
         → FineStep r m i st
     turn s d none a h = never h
     turn s d (some after) a h = test s after d a (which (last_in (reaches_of after))) h
 
-    decode : (d : Decoded) → step_at r i ≡ d → stepped i d (reaches_of st) next ≡ Fine → FineStep r m i st
-    decode (Bad why) d h = never h
-    decode (Good s) d h = turn s d (act plans s st) refl (rw (act-fold reaches s st) at h)
+    decode : (d : Result Step Refusal) → step_at r i ≡ d → stepped i d (reaches_of st) next ≡ Ok tt → FineStep r m i st
+    decode (Err why) d h = never h
+    decode (Ok s) d h = turn s d (act plans s st) refl (rw (act-fold reaches s st) at h)
 
 -- ---- what is accepted leaves one plan
 
-one_left : (r : List ℕ) (i : ℕ) (st : List Plan) → judged_from r 0 i (reaches_of st) ≡ Fine → (e : Plan) × (st ≡ e ∷ [])
+one_left : (r : List ℕ) (i : ℕ) (st : List Plan) → judged_from r 0 i (reaches_of st) ≡ Ok tt → (e : Plan) × (st ≡ e ∷ [])
 unfolding judged_from
 one_left r i [] h = never h
 one_left r i (e ∷ []) h = (e, refl)
@@ -91,7 +89,7 @@ one_left r i (e ∷ d ∷ st) h =
     let two : eqb (length (reaches_of (e ∷ d ∷ st))) 1 ≡ false = ne_eqb (length (reaches_of (e ∷ d ∷ st))) 1 (λ q. omega arith) in
     never (rw two at h)
 
-fine_leaves : (r : List ℕ) (m i : ℕ) (st : List Plan) → judged_from r m i (reaches_of st) ≡ Fine
+fine_leaves : (r : List ℕ) (m i : ℕ) (st : List Plan) → judged_from r m i (reaches_of st) ≡ Ok tt
     → (e : Plan) × (run plans r m i st ≡ some (e ∷ []))
 unfolding run done judged_from bind
 fine_leaves r zero i st h = let e = one_left r i st h in (e.0, ap some e.1)
@@ -153,20 +151,20 @@ act-kept Smaller st ok l = joined-kept _ st ok l
 pub record Underway (r : List ℕ) (m i : ℕ) (st : List Plan) (e : Plan) : Type 0 where
   pub fit : AllFit st
   pub few : length st ≤ most_signals
-  pub fine : judged_from r m i (reaches_of st) ≡ Fine
+  pub fine : judged_from r m i (reaches_of st) ≡ Ok tt
   pub leaves : run plans r m i st ≡ some (e ∷ [])
 
 -- a recipe that is accepted leaves its plan
-pub accepted_start : (r : List ℕ) → recipe_checked r ≡ Fine → Underway r (length r / step_bytes) 0 [] (plan_of r)
+pub accepted_start : (r : List ℕ) → recipe_checked r ≡ Ok tt → Underway r (length r / step_bytes) 0 [] (plan_of r)
 unfolding recipe_checked judged plan_of made
 accepted_start r h = go (which (bad_length (length r))) h
   where
-    begin : judged r ≡ Fine → Underway r (length r / step_bytes) 0 [] (plan_of r)
+    begin : judged r ≡ Ok tt → Underway r (length r / step_bytes) 0 [] (plan_of r)
     begin fine =
         let e = fine_leaves r (length r / step_bytes) 0 [] fine in
         record { fit = tt; few = omega arith; fine = fine; leaves = rw e.1 }
 
-    go : (bad_length (length r) ≡ true) ⊎ (bad_length (length r) ≡ false) → recipe_checked r ≡ Fine
+    go : (bad_length (length r) ≡ true) ⊎ (bad_length (length r) ≡ false) → recipe_checked r ≡ Ok tt
         → Underway r (length r / step_bytes) 0 [] (plan_of r)
     go (inl b) h = never (rw b at h)
     go (inr b) h = begin (rw b at h)
@@ -176,7 +174,7 @@ pub record Advanced (r : List ℕ) (m i : ℕ) (st : List Plan) (e : Plan) : Typ
   -- the step, and the plans held after it
   pub step : Step
   pub after : List Plan
-  pub decoded : step_at r i ≡ Good step
+  pub decoded : step_at r i ≡ Ok step
   pub sane : Sane step
   pub acted : act plans step st ≡ some after
   pub rest : Underway r m (i + 1) after e
@@ -218,5 +216,5 @@ underway_fits r zero i st e u = (subst AllFit (accepted_end r 0 i st e (omega ar
 underway_fits r (suc m) i st e u = let a = accepted_step r m i st e u in underway_fits r m (i + 1) a.after e a.rest
 
 -- the plan of an accepted recipe fits the window
-pub plan_fits : (r : List ℕ) → recipe_checked r ≡ Fine → Fits window (plan_of r)
+pub plan_fits : (r : List ℕ) → recipe_checked r ≡ Ok tt → Fits window (plan_of r)
 plan_fits r h = underway_fits r (length r / step_bytes) 0 [] (plan_of r) (accepted_start r h)

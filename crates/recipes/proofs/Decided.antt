@@ -1,11 +1,13 @@
 -- Each public call's contract allows one answer.
 -- Assumes nothing.
+use Rattle.recipes.specs.declared.Step.{Step}
+use Rattle.std.specs.Prelude.{Result}
+use Rattle.refusals.specs.declared.Refusal.{Refusal}
+use Rattle.refusals.specs.Refusals.{Checked}
 use Prim.Native.Nat.{ℕ}
 use mathlib.Core.Path.{◌≡◌, sym, ◌∙◌}
 use mathlib.Core.List.{List}
 use Rattle.theory.specs.Signals.{window, size}
-use Rattle.refusals.specs.declared.Checked.{Checked}
-use Rattle.recipes.specs.declared.Decoded.{Decoded}
 use Rattle.recipes.specs.Steps.{decoded_of, step_at}
 use Rattle.recipes.specs.Judge.{recipe_checked}
 
@@ -16,11 +18,11 @@ decided p q = p ∙ sym q
 pub size_decided : (set a b : ℕ) → a ≡ size window set → b ≡ size window set → a ≡ b
 size_decided set a b p q = decided p q
 
-pub decode_decided : (place code rank set : ℕ) (a b : Decoded)
+pub decode_decided : (place code rank set : ℕ) (a b : Result Step Refusal)
     → a ≡ decoded_of place code rank set → b ≡ decoded_of place code rank set → a ≡ b
 decode_decided place code rank set a b p q = decided p q
 
-pub step_at_decided : (recipe : List ℕ) (place : ℕ) (a b : Decoded)
+pub step_at_decided : (recipe : List ℕ) (place : ℕ) (a b : Result Step Refusal)
     → a ≡ step_at recipe place → b ≡ step_at recipe place → a ≡ b
 step_at_decided recipe place a b p q = decided p q
 

@@ -1,5 +1,8 @@
 -- Decoding: a decoded step's fields are allowed ones, the table by ranges of codes, and how many offsets a set has.
 -- Assumes nothing.
+use Rattle.std.specs.Prelude.{Result, Ok, Err}
+use Rattle.refusals.specs.declared.Refusal.{Refusal}
+use Rattle.refusals.specs.declared.Refusal.TheVariants.{StepCode}
 use mathlib.Core.Path.{◌≡◌, refl, sym, ap, subst, ◌∙◌}
 use mathlib.Core.Bool.{Bool, true, false, cond}
 use mathlib.Core.List.{List}
@@ -20,11 +23,8 @@ use Rattle.theory.proofs.Tests.{which, and_left, and_right, and_true}
 use Rattle.theory.proofs.Lists.{keep_cong, from_at}
 use Rattle.theory.proofs.Sets.{has_and, has_gather, gather-lt}
 use Rattle.theory.proofs.Positions.{positions_ones}
-use Rattle.refusals.specs.Refusals.{refusal}
 use Rattle.recipes.specs.declared.Step.{Step}
 use Rattle.recipes.specs.declared.Step.TheVariants.{Signal, Erode, Dilate, Open, Close, Rank, Median, Larger, Smaller}
-use Rattle.recipes.specs.declared.Decoded.{Decoded}
-use Rattle.recipes.specs.declared.Decoded.TheVariants.{Good, Bad}
 use Rattle.recipes.specs.Steps.{no_fields, set_alone, rank_fits, odd_set, allowed, decoded_of, step_at}
 use Rattle.recipes.specs.Private.{change_of, join_of}
 
@@ -45,18 +45,18 @@ Sane Larger = Unit {0}
 Sane Smaller = Unit {0}
 
 -- what a decoding promises
-abbrev SaneIn : Decoded → Type 0
-SaneIn (Good s) = Sane s
-SaneIn (Bad why) = Unit {0}
+abbrev SaneIn : Result Step Refusal → Type 0
+SaneIn (Ok s) = Sane s
+SaneIn (Err why) = Unit {0}
 
-record Promised (d : Decoded) : Type 0 where
+record Promised (d : Result Step Refusal) : Type 0 where
   pub sane : SaneIn d
 
 allowed_sane : (i : ℕ) (ok : Bool) (s : Step) → (ok ≡ true → Sane s) → Promised (allowed i ok s)
 allowed_sane i true s f = record { sane = f refl }
 allowed_sane i false s f = record { sane = tt }
 
-row_sane : (b : Bool) {x y : Decoded} → Promised x → Promised y → Promised (cond b x y)
+row_sane : (b : Bool) {x y : Result Step Refusal} → Promised x → Promised y → Promised (cond b x y)
 row_sane true p q = p
 row_sane false p q = q
 
@@ -86,12 +86,12 @@ table_sane i code k B =
     (row_sane (eqb code 7) (allowed_sane i (no_fields k B) Larger (λ e. tt))
     (row_sane (eqb code 8) (allowed_sane i (no_fields k B) Smaller (λ e. tt)) (record { sane = tt })))))))))
 
-pub step_sane : (r : List ℕ) (i : ℕ) (s : Step) → step_at r i ≡ Good s → Sane s
+pub step_sane : (r : List ℕ) (i : ℕ) (s : Step) → step_at r i ≡ Ok s → Sane s
 unfolding step_at
 step_sane r i s e = subst SaneIn e (table_sane i _ _ _).sane
 
 -- past the end every byte is 0: a signal step
-pub step_past : (r : List ℕ) (i : ℕ) → length r ≤ step_bytes * i → step_at r i ≡ Good Signal
+pub step_past : (r : List ℕ) (i : ℕ) → length r ≤ step_bytes * i → step_at r i ≡ Ok Signal
 unfolding step_at decoded_of
 step_past r i h =
     rw (
@@ -122,7 +122,7 @@ module _ (i k B : ℕ) where
       go (inl e) = rw (eqb-true code 7 e)
       go (inr e) = let ne = eqb-false code 7 e in let q : code ≡ 8 = omega arith in rw q
 
-  pub codes_over : (code : ℕ) → 8 < code → decoded_of i code k B ≡ Bad (refusal 2 i)
+  pub codes_over : (code : ℕ) → 8 < code → decoded_of i code k B ≡ Err (StepCode i)
   unfolding decoded_of
   codes_over code h =
       rw (other 0 refl, other 1 refl, other 2 refl, other 3 refl, other 4 refl, other 5 refl, other 6 refl, other 7 refl, other 8 refl)

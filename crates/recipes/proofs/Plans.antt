@@ -1,5 +1,7 @@
 -- A recipe's plan: the steps on the machine whose signals are plans. What they leave on any machine is what that makes of the plan.
 -- Assumes nothing.
+use Rattle.std.specs.Prelude.{Result, Ok, Err}
+use Rattle.refusals.specs.declared.Refusal.{Refusal}
 use mathlib.Core.Path.{◌≡◌, refl, ap, ap₂, ◌∙◌}
 use mathlib.Core.Bool.{Bool, true, false, cond}
 use mathlib.Core.List.{List, [], ◌∷◌, map}
@@ -16,8 +18,6 @@ use Rattle.theory.specs.Signals.{Ends, endless, window, spread}
 use Rattle.theory.proofs.Plans.{Plan, scan, near, larger_plan, smaller_plan, meaning, truth}
 use Rattle.recipes.specs.declared.Step.{Step}
 use Rattle.recipes.specs.declared.Step.TheVariants.{Signal, Erode, Dilate, Open, Close, Rank, Median, Larger, Smaller}
-use Rattle.recipes.specs.declared.Decoded.{Decoded}
-use Rattle.recipes.specs.declared.Decoded.TheVariants.{Good, Bad}
 use Rattle.recipes.specs.Steps.{step_at}
 use Rattle.recipes.specs.Machine.{Machine, added, replaced, joined, eroded, dilated, ranked_by, act, signals}
 use Rattle.recipes.specs.Meaning.{done, run, made, value_at, truth_of}
@@ -83,10 +83,10 @@ module _ {S : Type 0} (M : Machine S) where
   act-fold Larger st = joined-fold _ larger_plan (λ d e. refl) st
   act-fold Smaller st = joined-fold _ smaller_plan (λ d e. refl) st
 
-  done-fold : (d : Decoded) (st : List Plan) → done M d (map (fold M) st) ≡ folds M (done plans d st)
+  done-fold : (d : Result Step Refusal) (st : List Plan) → done M d (map (fold M) st) ≡ folds M (done plans d st)
   unfolding done folds
-  done-fold (Good s) st = act-fold s st
-  done-fold (Bad why) st = refl
+  done-fold (Ok s) st = act-fold s st
+  done-fold (Err why) st = refl
 
   bind_fold : (o : Option (List Plan)) (f : List S → Option (List S)) (g : List Plan → Option (List Plan))
       → ((st : List Plan) → f (map (fold M) st) ≡ folds M (g st)) → bind (folds M o) f ≡ folds M (bind o g)

@@ -1,5 +1,8 @@
 -- One turn of the loop over a recipe's steps: the first reaches of the code's array are the machine's stack.
 -- Assumes nothing.
+use Rattle.std.specs.Prelude.{Ok, Err}
+use Rattle.refusals.specs.declared.Refusal.TheVariants.{SignalsHeld, FarReach}
+use Rattle.refusals.specs.Refusals.{Checked}
 use mathlib.Core.Path.{◌≡◌, refl, sym, ap, ap₂, ◌∙◌}
 use mathlib.Core.Bool.{true, false, not}
 use mathlib.Core.List.{List, [], ◌∷◌}
@@ -14,14 +17,11 @@ use lib.Seq.{get_or-set_same, get_or-set_other}
 use borrow.Author.Tests.{eqb-true, eqb-false, le-ltb}
 use Rattle.limits.specs.Limits.{step_bytes, most_signals}
 use Rattle.theory.proofs.Tests.{which}
-use Rattle.refusals.specs.Refusals.{refusal, refuse_if}
+use Rattle.refusals.specs.Refusals.{refuse_if}
 use Rattle.refusals.specs.declared.Refusal.{Refusal}
-use Rattle.refusals.specs.declared.Checked.{Checked}
-use Rattle.refusals.specs.declared.Checked.TheVariants.{Refused}
 use Rattle.recipes.specs.declared.Reach.{Reach}
 use Rattle.recipes.specs.declared.Step.{Step}
 use Rattle.recipes.specs.declared.Step.TheVariants.{Signal, Erode, Dilate, Open, Close, Rank, Median, Larger, Smaller}
-use Rattle.recipes.specs.declared.Decoded.TheVariants.{Good, Bad}
 use Rattle.recipes.specs.Steps.{step_at}
 use Rattle.recipes.specs.Machine.{Machine, added, replaced, joined, act, reaches}
 use Rattle.recipes.specs.Judge.{in_reach, onward, stepped, judged_from}
@@ -146,12 +146,12 @@ module _ {r : List ℕ} {i count : ℕ} {rs : List Reach} (h : AtStep r i count 
   step_is more = let e : length r / step_bytes - i ≡ suc (length r / step_bytes - (i + 1)) = omega arith in sym h.same ∙ rw e
 
   -- the step is none
-  pub turn_bad : i < length r / step_bytes → (why : Refusal) → step_at r i ≡ Bad why → judged r ≡ Refused why
+  pub turn_bad : i < length r / step_bytes → (why : Refusal) → step_at r i ≡ Err why → judged r ≡ Err why
   unfolding stepped
   turn_bad more why d = step_is more ∙ rw d
 
   -- there is no more step
-  pub turn_end : i ≡ length r / step_bytes → judged r ≡ refuse_if (not (eqb count 1)) 4 (length r / step_bytes)
+  pub turn_end : i ≡ length r / step_bytes → judged r ≡ refuse_if (not (eqb count 1)) (SignalsHeld (length r / step_bytes))
   unfolding judged_from
   turn_end q = let e : length r / step_bytes - i ≡ 0 = omega arith in sym h.same ∙ rw (e, length_stack rs count, q)
 
@@ -159,7 +159,7 @@ module _ {r : List ℕ} {i count : ℕ} {rs : List Reach} (h : AtStep r i count 
 pub record Turn (r : List ℕ) (i count : ℕ) (rs : List Reach) (s : Step) (t : ℕ) : Type 0 where
   pub before : AtStep r i count rs
   pub more : i < length r / step_bytes
-  pub decoded : step_at r i ≡ Good s
+  pub decoded : step_at r i ≡ Ok s
   pub takes : t ≡ taken s
 
 -- no step takes more than two
@@ -179,11 +179,11 @@ module _ {r : List ℕ} {i count : ℕ} {rs : List Reach} {s : Step} {t : ℕ} (
   unfolding stepped
   turn_is = step_is a.before a.more ∙ rw a.decoded
 
-  pub turn_few : count < t → judged r ≡ Refused (refusal 4 i)
+  pub turn_few : count < t → judged r ≡ Err (SignalsHeld i)
   unfolding onward
   turn_few u = turn_is ∙ rw (act_few reaches s (stack_of rs count) (omega (arith, a.takes, length_stack rs count)))
 
-  pub turn_ninth : most_signals ≤ count - t → judged r ≡ Refused (refusal 4 i)
+  pub turn_ninth : most_signals ≤ count - t → judged r ≡ Err (SignalsHeld i)
   unfolding onward
   turn_ninth u =
       let l = length_stack rs count in
@@ -202,7 +202,7 @@ module _ {r : List ℕ} {i count : ℕ} {rs : List Reach} {s : Step} {t : ℕ} (
         ∙ reach_table s q u (stack_of rs at) (omega (arith, length_stack rs at))
         ∙ ap {B = Option (List Reach)} (λ w. some (w ∷ stack_of rs at)) (sym e)
 
-    pub turn_far : in_reach v ≡ false → judged r ≡ Refused (refusal 5 i)
+    pub turn_far : in_reach v ≡ false → judged r ≡ Err (FarReach i)
     unfolding onward
     turn_far k = turn_is ∙ rw (acted, k)
 

@@ -1,20 +1,21 @@
 -- What a recipe gives: the one signal that its steps leave, on endless signals.
+use Rattle.std.specs.Prelude.{Result, Ok, Err}
+use Rattle.refusals.specs.declared.Refusal.{Refusal}
+use Rattle.recipes.specs.declared.Step.{Step}
 use Rattle.std.specs.Prelude.{ℕ, zero, suc, ◌+◌, ◌/◌, Bool, List, [], pos, length, get_or}
 use Rattle.std.proofs.Math.Option
 use Rattle.std.proofs.Math.Option.{Option, none, some, bind}
 use Rattle.limits.specs.Limits.{step_bytes}
 use Rattle.theory.specs.Orders.{counts, bools}
 use Rattle.theory.specs.Signals.{Ends, endless, window, spread}
-use Rattle.recipes.specs.declared.Decoded.{Decoded}
-use Rattle.recipes.specs.declared.Decoded.TheVariants.{Good, Bad}
 use Rattle.recipes.specs.Steps.{step_at}
 use Rattle.recipes.specs.Machine.{Machine, act, signals}
 
 module _ {S : Type 0} (M : Machine S) where
   -- what is decoded, done to the signals held; none where it is no step
-  unfoldable pub done : Decoded → List S → Option (List S)
-  done (Good s) st = act M s st
-  done (Bad why) st = none
+  unfoldable pub done : Result Step Refusal → List S → Option (List S)
+  done (Ok s) st = act M s st
+  done (Err why) st = none
 
   -- m steps from step i on
   unfoldable pub run : List ℕ → ℕ → ℕ → List S → Option (List S)

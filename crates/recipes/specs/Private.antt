@@ -1,14 +1,13 @@
 -- Only private contracts cite this: the steps of a range of codes, all steps judged, and document 01's column "Reach" row by row.
+use Rattle.std.specs.Prelude.{Result, Ok, Err}
+use Rattle.refusals.specs.declared.Refusal.{Refusal}
+use Rattle.refusals.specs.Refusals.{Checked}
 use Rattle.std.specs.Prelude.{ℕ, ◌*◌, ◌/◌, ◌≤◌, Bool, cond, ◌&&◌, List, [], eqb, ℤ, pos, neg_ℤ, ◌+ℤ◌, ◌-ℤ◌, length}
 use Rattle.std.specs.Int.Signed.{mag, le_z}
 use Rattle.limits.specs.Limits.{reach, step_bytes}
 use Rattle.theory.specs.Signals.{window, offsets, leftmost, rightmost}
-use Rattle.refusals.specs.declared.Checked.{Checked}
-use Rattle.refusals.specs.declared.Checked.TheVariants as checked
 use Rattle.recipes.specs.declared.Step.{Step}
 use Rattle.recipes.specs.declared.Step.TheVariants.{Signal, Erode, Dilate, Open, Close, Rank, Median, Larger, Smaller}
-use Rattle.recipes.specs.declared.Decoded.{Decoded}
-use Rattle.recipes.specs.declared.Decoded.TheVariants.{Good, Bad}
 use Rattle.recipes.specs.declared.Reach.{Reach}
 use Rattle.recipes.specs.Machine.{both_reach}
 use Rattle.recipes.specs.Judge.{judged_from}
@@ -22,9 +21,9 @@ abbrev pub join_of : ℕ → Step
 join_of code = cond (eqb code 7) Larger Smaller
 
 -- why what is decoded is no step; fine where it is one
-abbrev pub refusal_in : Decoded → Checked
-refusal_in (Good s) = checked.Fine
-refusal_in (Bad why) = checked.Refused why
+abbrev pub refusal_in : Result Step Refusal → Checked
+refusal_in (Ok s) = Ok tt
+refusal_in (Err why) = Err why
 
 -- all the steps of a recipe, judged
 unfoldable pub judged : List ℕ → Checked

@@ -15,7 +15,7 @@ ghost use Rattle.recipes.specs.Private.{change_of, join_of, refusal_in, judged, 
 ghost use Rattle.recipes.specs.Private.{Near, Little, min_of, max_of, moved, eroded_reach, dilated_reach, opened_reach, reach_left};
 
 use limits::{MOST_SIGNALS, MOST_STEPS, PATTERNS, STEP_BYTES};
-use refusals::{Checked, Refusal};
+use refusals::Refusal;
 
 // The bytes of a recipe of the most steps.
 const LONGEST_RECIPE: usize = STEP_BYTES * MOST_STEPS;
@@ -32,13 +32,6 @@ pub enum Step {
     Median(u16),
     Larger,
     Smaller,
-}
-
-// What a step's four bytes are: a step, or refusal 2 or 3 with its place.
-#[derive(Clone, Copy)]
-pub enum Decoded {
-    Good(Step),
-    Bad(Refusal),
 }
 
 // The offsets that a signal can depend on, from lo to hi.
@@ -89,16 +82,13 @@ fn odd_set(k: u8, set: u16) -> bool
 }
 
 // A step whose fields are allowed, or refusal 3.
-fn allow(place: usize, ok: bool, step: Step) -> Decoded
+fn allow(place: usize, ok: bool, step: Step) -> Result<Step, Refusal>
     ensures { result ≡ allowed place ok step }
 {
     if ok {
-        return Decoded::Good(step);
+        return Ok(step);
     }
-    Decoded::Bad(Refusal {
-        number: refusals::STEP_FIELD,
-        place,
-    })
+    Err(Refusal::StepField(place))
 }
 
 // The step of a code from 1 to 4.
@@ -129,7 +119,7 @@ fn join_of(code: u8) -> Step
 
 // The step of a code, a rank and a set, which stands at a place of a recipe. Refuses 2 where the code is
 // over 8 and 3 where a field is not allowed, each with the place.
-pub fn decode(place: usize, code: u8, rank: u8, set: u16) -> Decoded
+pub fn decode(place: usize, code: u8, rank: u8, set: u16) -> Result<Step, Refusal>
     ensures { result ≡ decoded_of place code rank set }
 {
     match code {
@@ -138,10 +128,7 @@ pub fn decode(place: usize, code: u8, rank: u8, set: u16) -> Decoded
         5 => allow(place, rank_fits(rank, set), Step::Rank { k: rank, set }),
         6 => allow(place, odd_set(rank, set), Step::Median(set)),
         7..=8 => allow(place, no_fields(rank, set), join_of(code)),
-        _ => Decoded::Bad(Refusal {
-            number: refusals::STEP_CODE,
-            place,
-        }),
+        _ => Err(Refusal::StepCode(place)),
     }
 }
 
@@ -157,11 +144,11 @@ fn byte_at(recipe: &[u8], k: usize) -> u8
 
 // The step at a place of a recipe, from 0: its four bytes decoded, those past the end read as 0. Refuses
 // as `decode` does.
-pub fn step_at(recipe: &[u8], place: usize) -> Decoded
+pub fn step_at(recipe: &[u8], place: usize) -> Result<Step, Refusal>
     ensures { result ≡ step_at recipe.now place }
 {
     if recipe.len() / STEP_BYTES < place {
-        return Decoded::Good(Step::Signal);
+        return Ok(Step::Signal);
     }
     let at = STEP_BYTES * place;
     let code = byte_at(recipe, at);
@@ -295,14 +282,12 @@ fn reach_after(step: Step, q: Reach, r: Reach) -> Reach
     }
 }
 
-// Why what is decoded is no step; fine where it is one.
-fn refuse(decoded: Decoded) -> Checked
+// Why what is decoded is no step, if it is none.
+fn refuse(decoded: Result<Step, Refusal>) -> Result<(), Refusal>
     ensures { result ≡ refusal_in decoded }
 {
-    match decoded {
-        Decoded::Good(_) => Checked::Fine,
-        Decoded::Bad(refusal) => Checked::Refused(refusal),
-    }
+    decoded?;
+    Ok(())
 }
 
 // Whether a recipe's steps are accepted: step by step 2, 3, 4, 5, then 4 at the end.
@@ -310,57 +295,47 @@ fn refuse(decoded: Decoded) -> Checked
 // The reach of each signal held stands in the order in which they were added. A step leaves its signal
 // where the first of those that it takes stood. The array has one element more than signals may be held,
 // so that the one after that can always be read.
-fn judge_steps(recipe: &[u8]) -> Checked
+fn judge_steps(recipe: &[u8]) -> Result<(), Refusal>
     ensures { result ≡ judged recipe.now }
 {
     let steps = recipe.len() / STEP_BYTES;
     let mut reaches = [Reach { lo: 0, hi: 0 }; MOST_SIGNALS + 1];
     let mut count: usize = 0;
-    let mut i: usize = 0;
-    while i < steps {
+    for i in 0..steps {
         let decoded = step_at(recipe, i);
-        let Decoded::Good(step) = decoded else {
+        let Ok(step) = decoded else {
             return refuse(decoded);
         };
         let taken = takes(step);
         if count < taken {
-            return Checked::Refused(Refusal {
-                number: refusals::SIGNALS_HELD,
-                place: i,
-            });
+            return Err(Refusal::SignalsHeld(i));
         }
         let at = count - taken;
         if MOST_SIGNALS <= at {
-            return Checked::Refused(Refusal {
-                number: refusals::SIGNALS_HELD,
-                place: i,
-            });
+            return Err(Refusal::SignalsHeld(i));
         }
         let reach = reach_after(step, reaches[at], reaches[at + 1]);
         if !is_in_reach(reach) {
-            return Checked::Refused(Refusal {
-                number: refusals::REACH,
-                place: i,
-            });
+            return Err(Refusal::FarReach(i));
         }
         reaches[at] = reach;
         count = at + 1;
-        i += 1;
     }
-    refusals::refuse_if(count != 1, refusals::SIGNALS_HELD, steps)
+    if count != 1 {
+        return Err(Refusal::SignalsHeld(steps));
+    }
+    Ok(())
 }
 
 // Whether a recipe is accepted. Refuses 1 with its length; then, at the first step where one is due,
 // 2, 3, 4 or 5 with the step; then 4 with the number of steps, where not one signal is left.
-pub fn judge(recipe: &[u8]) -> Checked
+#[tactic(auto, unfolding(crate::specs::Judge::recipe_checked, crate::specs::Judge::bad_length, crate::specs::Private::judged))]
+pub fn judge(recipe: &[u8]) -> Result<(), Refusal>
     ensures { result ≡ recipe_checked recipe.now }
 {
     let n = recipe.len();
-    if (n == 0) | (LONGEST_RECIPE < n) | !(n % STEP_BYTES == 0) {
-        return Checked::Refused(Refusal {
-            number: refusals::RECIPE_LENGTH,
-            place: n,
-        });
+    if n == 0 || LONGEST_RECIPE < n || n % STEP_BYTES != 0 {
+        return Err(Refusal::RecipeLength(n));
     }
     judge_steps(recipe)
 }

@@ -6,36 +6,30 @@ use mathlib.Core.Path.{◌≡◌, refl}
 use mathlib.Core.Bool.{Bool, true, false}
 use mathlib.Core.List.{List, append-nil}
 use lib.ListN.{length, drop_of_length-le}
-use Rattle.refusals.specs.Refusals.{refuse_if, or_else, answered, answer_of, written}
+use Rattle.std.specs.Prelude.{Result, Ok, Err}
 use Rattle.refusals.specs.declared.Refusal.{Refusal}
-use Rattle.refusals.specs.declared.Checked.{Checked}
-use Rattle.refusals.specs.declared.Checked.TheVariants.{Fine, Refused}
-use Rattle.refusals.specs.declared.Answer.TheVariants.{Done}
-
-pub refused_fine : {P : Type 0} (r : Refusal) → Refused r ≡ Fine → P
-refused_fine r e = let z : ◌≡◌ {A = ℕ} 0 1 = cc in absurd (omega arith)
+use Rattle.refusals.specs.Refusals.{Checked, refuse_if, and_then, written}
 
 -- a test that refuses did not pass, where nothing is refused
-pub refuse_no : (b : Bool) (n p : ℕ) → refuse_if b n p ≡ Fine → b ≡ false
-refuse_no true n p e = refused_fine _ e
-refuse_no false n p e = refl
+pub refuse_no : (b : Bool) (r : Refusal) → refuse_if b r ≡ Ok tt → b ≡ false
+refuse_no true r e = absurd (cc)
+refuse_no false r e = refl
 
 -- of two checks in order, neither refuses where the order finds nothing
-pub or_else_fine : (a b : Checked) → or_else a b ≡ Fine → (a ≡ Fine) × (b ≡ Fine)
-or_else_fine Fine b e = (refl, e)
-or_else_fine (Refused r) b e = refused_fine r e
+pub and_then_fine : (a b : Checked) → and_then a b ≡ Ok tt → (a ≡ Ok tt) × (b ≡ Ok tt)
+and_then_fine (Ok tt) b e = (refl, e)
+and_then_fine (Err r) b e = absurd (cc)
 
--- an answer that gives n comes of a check that found nothing
-pub done_fine : (c : Checked) (m n : ℕ) → Done n ≡ answer_of c m → (c ≡ Fine) × (n ≡ m)
-done_fine Fine m n e = (refl, cc)
-done_fine (Refused r) m n e = let z : ◌≡◌ {A = ℕ} 0 1 = cc in absurd (omega arith)
+-- an answer that gives a comes of a check that found nothing
+pub done_fine : {A : Type 0} (c : Checked) (b a : A) → Ok a ≡ and_then c (Ok b) → (c ≡ Ok tt) × (a ≡ b)
+done_fine (Ok tt) b a e = (refl, cc)
+done_fine (Err r) b a e = absurd (cc)
 
--- what is made of an answer is made of either case
-pub through : {A B : Type 0} (c : Checked) (f : A → B) (a : A) (refuse : Refusal → A)
-    → f (answered c a refuse) ≡ answered c (f a) (λ r. f (refuse r))
-through Fine f a refuse = refl
-through (Refused r) f a refuse = refl
+-- a refusal is the check's
+pub refused_by : {A : Type 0} (c : Checked) (r : Refusal) (b : A) → Err r ≡ and_then c (Ok b) → c ≡ Err r
+refused_by (Ok tt) r b e = absurd (cc)
+refused_by (Err q) r b e = cc
 
 -- an answer as long as the slice that it is written to is the whole of it
-pub written_whole : {A : Type 0} {c : Checked} (new old : List A) → c ≡ Fine → length old ≤ length new → written c new old ≡ new
+pub written_whole : {A : Type 0} {c : Checked} (new old : List A) → c ≡ Ok tt → length old ≤ length new → written c new old ≡ new
 written_whole new old e h = rw (e, drop_of_length-le old h) (append-nil new)

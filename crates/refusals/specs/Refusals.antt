@@ -1,34 +1,26 @@
--- Refusals by document 01's numbers, the order in which they are asked, and what a call then answers and leaves in a lent slice.
-use Rattle.std.specs.Prelude.{ℕ, Bool, cond, List, ◌++◌, length, drop}
+-- The order in which refusals are asked, and what a call then leaves in a lent slice.
+use Rattle.std.specs.Prelude.{Bool, cond, List, ◌++◌, length, drop, Result, Ok, Err}
 use Rattle.refusals.specs.declared.Refusal.{Refusal}
-use Rattle.refusals.specs.declared.Checked.{Checked}
-use Rattle.refusals.specs.declared.Checked.TheVariants as checked
-use Rattle.refusals.specs.declared.Answer.{Answer}
-use Rattle.refusals.specs.declared.Answer.TheVariants as answer
 
--- a refusal by its number and place
-abbrev pub refusal : ℕ → ℕ → Refusal
-refusal n p = record { number = n; place = p }
+-- what a check finds: nothing, or a refusal
+abbrev pub Checked : Type 0
+Checked = Result (Unit {0}) Refusal
 
--- refused under a number, with a place, exactly when the condition holds
-abbrev pub refuse_if : Bool → ℕ → ℕ → Checked
-refuse_if b n p = cond b (checked.Refused (refusal n p)) checked.Fine
+-- refused exactly when the condition holds
+abbrev pub refuse_if : Bool → Refusal → Checked
+refuse_if b r = cond b (Err r) (Ok tt)
 
--- an order of refusals: the later check is asked only where the earlier one finds nothing
-abbrev pub or_else : Checked → Checked → Checked
-or_else checked.Fine later = later
-or_else (checked.Refused r) later = checked.Refused r
-
--- what a call answers: a where its check is fine; else the refusal, number and place, as its answers say it
-abbrev pub answered : {A : Type 0} → Checked → A → (Refusal → A) → A
-answered checked.Fine a refuse = a
-answered (checked.Refused r) a refuse = refuse r
-
--- the answer of a call that gives n elements
-abbrev pub answer_of : Checked → ℕ → Answer
-answer_of c n = answered c (answer.Done n) answer.Refused
+-- an order of refusals: what follows a check is asked only where the check finds nothing
+abbrev pub and_then : {A : Type 0} → Checked → Result A Refusal → Result A Refusal
+and_then (Ok done) later = later
+and_then (Err r) later = Err r
 
 -- a lent slice after the call: the answer from its start and the rest as it was; a refusal changes no element
 abbrev pub written : {A : Type 0} → Checked → List A → List A → List A
-written checked.Fine new old = new ++ drop (length new) old
-written (checked.Refused r) new old = old
+written (Ok done) new old = new ++ drop (length new) old
+written (Err r) new old = old
+
+-- what a call leaves of a value that it changes: the new one, or after a refusal the old one
+abbrev pub kept : {A : Type 0} → Checked → A → A → A
+kept (Ok done) new old = new
+kept (Err r) new old = old

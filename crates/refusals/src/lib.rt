@@ -1,138 +1,139 @@
-// Why a call says no, and what every call answers.
+// Why a call says no.
 //
-// A refusal is what document 01 says it is: a number and a place. The table of numbers stands here once, a constant to a row, and
-// each check that several calls share. No function has a `requires`, and nothing is assumed.
+// A refusal is one of the causes below, with its place. What C and a printed line say of it, its number and its place, is its notice.
+// What a call checks is a `Result<(), Refusal>`, so the order of refusals is the order of the `?`s. No function has a `requires`, and
+// nothing is assumed.
 
 #![tactic(auto)]
 
 ghost use Rattle.std.specs.Prelude.{◌≡◌};
-ghost use Rattle.refusals.specs.Refusals.{or_else, refuse_if, answer_of};
+ghost use Rattle.refusals.specs.Numbers.{notice_of};
 ghost use Rattle.refusals.specs.Shared.{room_checked, scan_checked, lent_checked};
 
-// A refusal: its number in document 01's table, and its place.
-#[derive(Clone, Copy)]
-pub struct Refusal {
+#[derive(Clone, Copy, Debug, PartialEq, Eq)]
+pub enum Refusal {
+    // ---- of recipes
+
+    // The recipe is empty, not a multiple of 4 bytes, or over 128 bytes; its length.
+    RecipeLength(usize),
+    // A step code is over 8; the step, from 0.
+    StepCode(usize),
+    // A field is not allowed; the step.
+    StepField(usize),
+    // Too few signals held, a ninth added, or not one left; the step, or the number of steps.
+    SignalsHeld(usize),
+    // The reach leaves -4 to 4; the step.
+    FarReach(usize),
+
+    // ---- of terms
+
+    // Fewer elements lent for terms than needed; the terms needed.
+    TermsLent(usize),
+    // A term is over 511, not above its predecessor, or contains an earlier one; its index.
+    BadTerm(usize),
+    // A form has over 126 terms; its terms.
+    TermCount(usize),
+
+    // ---- of scans, lent slices, truth tables and presets
+
+    // A scan of 0 or over 16,384 samples; the samples.
+    ScanLength(usize),
+    // An output slice of the wrong length; the length needed.
+    OutputLength(usize),
+    // A truth table is not positive; the least pattern that one more offset turns to 0.
+    NotPositive(usize),
+    // A truth table slice is not 64 bytes; its length.
+    TableLength(usize),
+    // A preset number is over 19; the number.
+    PresetNumber(usize),
+
+    // ---- of a scan file's layout
+
+    // A scan file's length is outside 12 to 33,032; the length.
+    FileLength(usize),
+    // A scan file does not end with the mark; the mark's first byte, from the file's start.
+    Mark(usize),
+    // A scan file's term distance is not that of its number of terms; the term distance's first byte.
+    TermDistance(usize),
+    // A scan file's sample distance is not the file's length, is below the term distance, or leaves a part of a sample before the
+    // terms; the sample distance's first byte.
+    SampleDistance(usize),
+
+    // ---- of lists of names
+
+    // A line of the list is empty or too long; the first such, from 1.
+    BadName(usize),
+    // The list has over 250 lines; 250.
+    NameCount(usize),
+}
+
+// What C, a printed line and the second program know a refusal by: its number in document 01's table, and its place.
+#[derive(Clone, Copy, Debug, PartialEq, Eq)]
+pub struct Notice {
     pub number: u8,
     pub place: usize,
 }
 
-// ---- of recipes
+impl From<Refusal> for Notice {
+    ghost from_gives = { λ refusal told. told ≡ notice_of refusal };
 
-// The recipe is empty, not a multiple of 4 bytes, or over 128 bytes; its length.
-pub const RECIPE_LENGTH: u8 = 1;
-// A step code is over 8; the step, from 0.
-pub const STEP_CODE: u8 = 2;
-// A field is not allowed; the step.
-pub const STEP_FIELD: u8 = 3;
-// Too few signals held, a ninth added, or not one left; the step, or the number of steps.
-pub const SIGNALS_HELD: u8 = 4;
-// The reach leaves -4 to 4; the step.
-pub const REACH: u8 = 5;
-
-// What a check finds.
-#[derive(Clone, Copy)]
-pub enum Checked {
-    Fine,
-    Refused(Refusal),
-}
-
-// ---- of terms
-
-// Fewer elements lent for terms than needed; the terms needed.
-pub const TERMS_LENT: u8 = 6;
-// A term is over 511, not above its predecessor, or contains an earlier one; its index.
-pub const BAD_TERM: u8 = 7;
-// A form has over 126 terms; its terms.
-pub const TERM_COUNT: u8 = 8;
-
-// What a call answers: the number of terms, samples or bytes that it gives, or why it says no.
-#[derive(Clone, Copy)]
-pub enum Answer {
-    Done(usize),
-    Refused(Refusal),
-}
-
-// ---- of scans, lent slices, truth tables and presets
-
-// A scan of 0 or over 16,384 samples; the samples.
-pub const SCAN_LENGTH: u8 = 9;
-// An output slice of the wrong length; the length needed.
-pub const OUTPUT_LENGTH: u8 = 10;
-// A truth table is not positive; the least pattern that one more offset turns to 0.
-pub const NOT_POSITIVE: u8 = 12;
-// A truth table slice is not 64 bytes; its length.
-pub const TABLE_LENGTH: u8 = 13;
-// A preset number is over 19; the number.
-pub const PRESET_NUMBER: u8 = 14;
-
-// ---- of a scan file's layout
-
-// A scan file's length is outside 12 to 33,032; the length.
-pub const FILE_LENGTH: u8 = 15;
-// A scan file does not end with the mark; the mark's first byte, from the file's start.
-pub const MARK: u8 = 16;
-// A scan file's term distance is not that of its number of terms; the term distance's first byte.
-pub const TERM_DISTANCE: u8 = 17;
-// A scan file's sample distance is not the file's length, is below the term distance, or leaves a part of a sample before the
-// terms; the sample distance's first byte.
-pub const SAMPLE_DISTANCE: u8 = 18;
-
-// ---- of lists of names
-
-// A line of the list is empty or too long; the first such, from 1.
-pub const BAD_NAME: u8 = 19;
-// The list has over 250 lines; 250.
-pub const NAME_COUNT: u8 = 20;
-
-// ---- checks and answers
-
-// Refused exactly when the condition holds.
-pub fn refuse_if(condition: bool, number: u8, place: usize) -> Checked
-    ensures { result ≡ refuse_if condition number place }
-{
-    if condition {
-        return Checked::Refused(Refusal { number, place });
-    }
-    Checked::Fine
-}
-
-// The earlier check's refusal, or else what the later one finds: an order of refusals is a chain of these.
-pub fn or_else(earlier: Checked, later: Checked) -> Checked
-    ensures { result ≡ or_else earlier later }
-{
-    if let Checked::Refused(refusal) = earlier {
-        return Checked::Refused(refusal);
-    }
-    later
-}
-
-// The answer of a call that gives n elements where the check is fine.
-pub fn answer_with(checked: Checked, n: usize) -> Answer
-    ensures { result ≡ answer_of checked n }
-{
-    match checked {
-        Checked::Fine => Answer::Done(n),
-        Checked::Refused(refusal) => Answer::Refused(refusal),
+    fn from(refusal: Refusal) -> Notice {
+        let (number, place) = match refusal {
+            Refusal::RecipeLength(length) => (1, length),
+            Refusal::StepCode(step) => (2, step),
+            Refusal::StepField(step) => (3, step),
+            Refusal::SignalsHeld(step) => (4, step),
+            Refusal::FarReach(step) => (5, step),
+            Refusal::TermsLent(needed) => (6, needed),
+            Refusal::BadTerm(index) => (7, index),
+            Refusal::TermCount(terms) => (8, terms),
+            Refusal::ScanLength(samples) => (9, samples),
+            Refusal::OutputLength(needed) => (10, needed),
+            Refusal::NotPositive(pattern) => (12, pattern),
+            Refusal::TableLength(length) => (13, length),
+            Refusal::PresetNumber(preset) => (14, preset),
+            Refusal::FileLength(length) => (15, length),
+            Refusal::Mark(byte) => (16, byte),
+            Refusal::TermDistance(byte) => (17, byte),
+            Refusal::SampleDistance(byte) => (18, byte),
+            Refusal::BadName(line) => (19, line),
+            Refusal::NameCount(most) => (20, most),
+        };
+        Notice { number, place }
     }
 }
 
-// Refusal 6, where fewer elements are lent for terms than needed.
-pub fn check_room(needed: usize, lent: usize) -> Checked
+// ---- what several calls check
+
+// Refuses fewer elements lent for terms than needed.
+#[tactic(auto, unfolding(crate::specs::Shared::room_checked))]
+pub fn check_room(needed: usize, lent: usize) -> Result<(), Refusal>
     ensures { result ≡ room_checked needed lent }
 {
-    refuse_if(lent < needed, TERMS_LENT, needed)
+    if lent < needed {
+        return Err(Refusal::TermsLent(needed));
+    }
+    Ok(())
 }
 
-// Refusal 9, where a scan has no samples or over the most that its family allows.
-pub fn check_scan(most: usize, samples: usize) -> Checked
+// Refuses a scan of no samples, or over the most that its family allows.
+#[tactic(auto, unfolding(crate::specs::Shared::scan_checked))]
+pub fn check_scan(most: usize, samples: usize) -> Result<(), Refusal>
     ensures { result ≡ scan_checked most samples }
 {
-    refuse_if((samples == 0) | (most < samples), SCAN_LENGTH, samples)
+    if samples == 0 || samples > most {
+        return Err(Refusal::ScanLength(samples));
+    }
+    Ok(())
 }
 
-// Refusal 10, where an output slice has another length than needed.
-pub fn check_lent(needed: usize, lent: usize) -> Checked
+// Refuses an output slice of another length than needed.
+#[tactic(auto, unfolding(crate::specs::Shared::lent_checked))]
+pub fn check_lent(needed: usize, lent: usize) -> Result<(), Refusal>
     ensures { result ≡ lent_checked needed lent }
 {
-    refuse_if(lent != needed, OUTPUT_LENGTH, needed)
+    if lent != needed {
+        return Err(Refusal::OutputLength(needed));
+    }
+    Ok(())
 }

@@ -1,5 +1,6 @@
 -- How large the counts of a file of bytes can be: each is at most 65,535 for every sample.
 -- Assumes nothing.
+use Rattle.std.specs.Prelude.{Ok}
 use Prim.Native.Nat.{ℕ, zero, suc, ◌+◌, ◌-◌, ◌*◌, ◌≤◌, zero-le}
 use native.Mathlib.Nat.{mul-suc}
 use native.Mathlib.Omega.{arith}
@@ -12,7 +13,6 @@ use Rattle.theory.specs.Lists.{bit, sum}
 use Rattle.theory.specs.Forms.{levels}
 use Rattle.theory.specs.Signals.{held, filtered_at, residue_at}
 use Rattle.theory.proofs.Lists.{bit_lt, tally-le, get_or_tab_default}
-use Rattle.refusals.specs.declared.Checked.TheVariants.{Fine}
 use Rattle.files.specs.Bytes.{word_at, words_from}
 use Rattle.files.specs.Layout.{counts_family, samples_back, sample_count, file_samples, file_terms}
 use Rattle.files.specs.Files.{file_checked}
@@ -85,7 +85,7 @@ module _ (f : List ℕ) (bytes : Bytes f) where
         }
 
   -- of a file that can be read each count is at most 65,535 times 16,384
-  pub accepted_most : file_checked counts_family f ≡ Fine → Most (top * most_samples) (counts_in f)
+  pub accepted_most : file_checked counts_family f ≡ Ok tt → Most (top * most_samples) (counts_in f)
   accepted_most e =
       let short = (fine_file counts_family f e).short in
       let n = samples_counted f in

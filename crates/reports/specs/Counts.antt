@@ -1,15 +1,15 @@
 -- The report's counts of a form and a scan, each the count or the sum of document 01's definition over the residues; a spike as request 2 of
 -- document 02 has it.
+use Rattle.std.specs.Prelude.{Result, Ok}
+use Rattle.refusals.specs.declared.Refusal.{Refusal}
+use Rattle.refusals.specs.Refusals.{and_then}
 use Rattle.std.specs.Prelude.{ℕ, ◌≡◌, Bool, cond, List, ltb, length, ℤ, nat_abs}
 use Rattle.std.specs.Int.Signed.{non_neg}
 use Rattle.theory.specs.Lists.{bit, sum}
 use Rattle.theory.specs.Signals.{held, residue_at}
-use Rattle.refusals.specs.Refusals.{answered}
 use Rattle.files.specs.Layout.{counts_family, file_samples, file_terms}
 use Rattle.files.specs.Files.{file_checked}
 use Rattle.reports.specs.declared.Counts.{Counts}
-use Rattle.reports.specs.declared.CountAnswer.{CountAnswer}
-use Rattle.reports.specs.declared.CountAnswer.TheVariants as answer
 use Rattle.reports.specs.Runs.{longest_runs}
 
 -- the residue isn't 0
@@ -44,9 +44,9 @@ abbrev pub counts_in : List ℕ → Counts
 counts_in f = counts_of (length (file_samples f)) (residue_at held (file_terms f) (file_samples f))
 
 -- what counting from the file f answers: its counts, or why it is refused: 15 to 18, 7, 8, 9
-abbrev pub file_counted : List ℕ → CountAnswer
-file_counted f = answered (file_checked counts_family f) (answer.Counted (counts_in f)) answer.Refused
+abbrev pub file_counted : List ℕ → Result Counts Refusal
+file_counted f = and_then (file_checked counts_family f) (Ok (counts_in f))
 
 -- counting from the file f
-abbrev pub Count : List ℕ → CountAnswer → Type 0
+abbrev pub Count : List ℕ → Result Counts Refusal → Type 0
 Count f a = a ≡ file_counted f

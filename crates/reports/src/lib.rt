@@ -7,13 +7,10 @@
 ghost use Rattle.std.specs.Prelude.{◌≡◌, ◌&&◌, not, ◌-◌, ◌≤◌, eqb, length, get_or, pos, ◌-ℤ◌};
 ghost use Rattle.limits.specs.Limits.{most_samples, most_terms, top};
 ghost use Rattle.theory.specs.Signals.{held, residue_at};
-ghost use Rattle.refusals.specs.Refusals.{refusal};
-ghost use Rattle.refusals.specs.declared.Checked.TheVariants.{Fine};
+ghost use Rattle.refusals.specs.declared.Refusal.TheVariants.{FileLength};
 ghost use Rattle.scans.specs.Run.{run_checked};
-ghost use Rattle.reports.specs.declared.CountAnswer.TheVariants.{Refused};
 ghost use Rattle.reports.specs.Counts.{kind_of, counts_of, Count};
 
-use files::ReadAnswer;
 use limits::{MOST_SAMPLES, MOST_TERMS};
 use refusals::Refusal;
 
@@ -30,13 +27,6 @@ pub struct Counts {
     pub up: u64,
     // The total of the negative residues, with the sign dropped.
     pub down: u64,
-}
-
-// What a count answers: the five numbers, or why it says no.
-#[derive(Clone, Copy)]
-pub enum CountAnswer {
-    Counted(Counts),
-    Refused(Refusal),
 }
 
 // How far a lies above b; 0 where it does not.
@@ -74,8 +64,7 @@ fn count_residues(scan: &[u16], cleaned: &[u16]) -> Counts
     let mut up: usize = 0;
     let mut down: usize = 0;
     let mut before: usize = 0;
-    let mut x = 0;
-    while x < scan.len() {
+    for x in 0..scan.len() {
         let raw = scan[x];
         let value = cleaned[x];
         let here = kind(raw, value);
@@ -84,7 +73,6 @@ fn count_residues(scan: &[u16], cleaned: &[u16]) -> Counts
         up += excess(raw, value);
         down += excess(value, raw);
         before = here;
-        x += 1;
     }
     Counts {
         samples: scan.len() as u64,
@@ -104,16 +92,16 @@ fn room() -> [u16; MOST_SAMPLES]
 
 // The counts of a form and a scan that a run accepts, with as many elements lent for the cleaned values.
 fn clean_and_count(terms: &[u16], scan: &[u16], cleaned: &mut [u16]) -> Counts
-    requires { run_checked terms.now scan.now (length cleaned.old) ≡ Fine }
+    requires { run_checked terms.now scan.now (length cleaned.old) ≡ Ok tt }
     ensures { result ≡ counts_of (length scan.now) (residue_at held terms.now scan.now) }
 {
-    scans::clean(terms, scan, cleaned);
+    let _ = scans::clean(terms, scan, cleaned);
     count_residues(scan, cleaned)
 }
 
 // The counts of a form and a scan that a run accepts.
 fn count_scan(terms: &[u16], scan: &[u16]) -> Counts
-    requires { run_checked terms.now scan.now (length scan.now) ≡ Fine }
+    requires { run_checked terms.now scan.now (length scan.now) ≡ Ok tt }
     ensures { result ≡ counts_of (length scan.now) (residue_at held terms.now scan.now) }
 {
     let mut cleaned = room();
@@ -122,24 +110,18 @@ fn count_scan(terms: &[u16], scan: &[u16]) -> Counts
 }
 
 // Counts from a file, with room lent for the longest scan and the longest form.
-fn read_and_count(file: &[u8], samples: &mut [u16], terms: &mut [u16]) -> CountAnswer
+fn read_and_count(file: &[u8], samples: &mut [u16], terms: &mut [u16]) -> Result<Counts, Refusal>
     requires { (most_samples ≤ length samples.old) × (most_terms ≤ length terms.old) }
     ensures { Count file.now result }
 {
-    let answer = files::read(file, samples, terms);
-    match answer {
-        ReadAnswer::Read {
-            samples: n,
-            terms: m,
-        } => CountAnswer::Counted(count_scan(&terms[..m], &samples[..n])),
-        ReadAnswer::Refused(refusal) => CountAnswer::Refused(refusal),
-    }
+    let sizes = files::read(file, samples, terms)?;
+    Ok(count_scan(&terms[..sizes.terms], &samples[..sizes.samples]))
 }
 
 // Counts what the form of a file changes of its scan: the samples, those that changed, the spikes, and the totals of the
 // positive and of the negative residues. Refuses 15 for the file's length, 16 for its mark, 17 for its term distance, 18 for its
 // sample distance, 7 and 8 of its terms, and 9 of its samples, in this order.
-pub fn count(file: &[u8]) -> CountAnswer
+pub fn count(file: &[u8]) -> Result<Counts, Refusal>
     ensures { Count file.now result }
 {
     let mut samples = room();
@@ -149,11 +131,8 @@ pub fn count(file: &[u8]) -> CountAnswer
 
 // What counting answers of every file that is refused for its length (see length-counted in proofs/Lengths.antt): of such a file no
 // byte need be read.
-pub fn refuse_length(length: usize) -> CountAnswer
-    ensures { result ≡ Refused (refusal 15 length) }
+pub fn refuse_length(length: usize) -> Result<Counts, Refusal>
+    ensures { result ≡ Err (FileLength length) }
 {
-    CountAnswer::Refused(Refusal {
-        number: refusals::FILE_LENGTH,
-        place: length,
-    })
+    Err(Refusal::FileLength(length))
 }

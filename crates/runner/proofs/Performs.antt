@@ -1,5 +1,6 @@
 -- What an accepted recipe's steps make of the stack: before each of them its rows are those of the plans that the steps before leave.
 -- Assumes nothing.
+use Rattle.std.specs.Prelude.{Ok, Err}
 use mathlib.Core.Path.{◌≡◌, refl, sym, ap, ◌∙◌, subst}
 use mathlib.Core.Bool.{Bool, true, false, cond}
 use mathlib.Core.List.{List, [], ◌∷◌, map}
@@ -20,10 +21,8 @@ use Rattle.theory.proofs.Tests.{which, not_both}
 use Rattle.theory.proofs.Lists.{tab_cong}
 use Rattle.theory.proofs.Orders.{Lawful, Strict, counts_lawful, counts_strict}
 use Rattle.refusals.specs.declared.Refusal.{Refusal}
-use Rattle.refusals.specs.declared.Checked.TheVariants.{Fine}
 use Rattle.recipes.specs.declared.Step.{Step}
 use Rattle.recipes.specs.declared.Step.TheVariants.{Signal, Erode, Dilate, Open, Close, Rank, Median, Larger, Smaller}
-use Rattle.recipes.specs.declared.Decoded.TheVariants.{Good, Bad}
 use Rattle.recipes.specs.Steps.{step_at}
 use Rattle.recipes.specs.Machine.{added, replaced, joined, eroded, dilated, ranked_by, act}
 use Rattle.recipes.specs.Judge.{recipe_checked}
@@ -136,7 +135,7 @@ pub record Going (l r : ℕ) (recipe s stack : List ℕ) (n h i : ℕ) : Type 0 
   pub counted : length planned ≡ h
   pub rows : rows_in (length s + margin) h stack ≡ rows_of l r s planned
 
-pub going_start : (l r : ℕ) (recipe s stack : List ℕ) → recipe_checked recipe ≡ Fine
+pub going_start : (l r : ℕ) (recipe s stack : List ℕ) → recipe_checked recipe ≡ Ok tt
     → Going l r recipe s stack (length recipe / step_bytes) 0 0
 unfolding rows_in
 going_start l r recipe s stack fine =
@@ -153,10 +152,10 @@ module _ {l r : ℕ} {recipe s stack : List ℕ} {n h i : ℕ} (at : Going l r r
     turn = accepted_turn recipe n i at.planned (plan_of recipe) more at.underway
 
     -- the step is one
-    pub going_good : {P : Type 0} (why : Refusal) → step_at recipe i ≡ Bad why → P
+    pub going_good : {P : Type 0} (why : Refusal) → step_at recipe i ≡ Err why → P
     going_good why e = let z : ◌≡◌ {A = ℕ} 0 1 = cc turn.decoded in absurd (omega arith)
 
-    module _ (step : Step) (e : step_at recipe i ≡ Good step) (w : Work) (is_work : w ≡ work_of step) where
+    module _ (step : Step) (e : step_at recipe i ≡ Ok step) (w : Work) (is_work : w ≡ work_of step) where
       same : work_of turn.step ≡ w
       same = let q : turn.step ≡ step = cc (turn.decoded, e) in ap work_of q ∙ sym is_work
 

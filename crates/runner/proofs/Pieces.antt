@@ -1,6 +1,7 @@
 -- A run in pieces: a value depends on no sample that lies further away than the window reaches, so it is the same on a piece of the scan
 -- that has those, between the same two values.
 -- Assumes nothing.
+use Rattle.std.specs.Prelude.{Ok}
 use mathlib.Core.Path.{◌≡◌, refl, sym, ap, ap₂, ◌∙◌}
 use mathlib.Core.List.{List, ◌++◌, append_assoc}
 use mathlib.Core.Logic.{◌⊎◌, inl, inr}
@@ -20,7 +21,6 @@ use Rattle.theory.proofs.Differences.{side, sub_high, pos_add}
 use Rattle.theory.proofs.Signals.{between_left, between_inside, between_right, column_of}
 use Rattle.theory.proofs.Truth.{Fits, fits_inside}
 use Rattle.theory.proofs.Fills.{Filled}
-use Rattle.refusals.specs.declared.Checked.TheVariants.{Fine}
 use Rattle.recipes.specs.Judge.{recipe_checked}
 use Rattle.recipes.proofs.Plans.{plan_of, signal_plan}
 use Rattle.recipes.proofs.Accepted.{plan_fits}
@@ -103,7 +103,7 @@ module _ {A : Type 0} (l r : A) (s : List A) (far at next start len : ℕ) (sp :
 -- ---- a recipe on a piece
 
 -- an accepted recipe at the samples from at to next
-module _ (l r : ℕ) (recipe s : List ℕ) (fine : recipe_checked recipe ≡ Fine)
+module _ (l r : ℕ) (recipe s : List ℕ) (fine : recipe_checked recipe ≡ Ok tt)
     (at next start len : ℕ) (sp : Spans reach (length s) at next start len) where
   -- it has one value on the piece and on the whole
   value_in_piece : (y : ℕ) → at ≤ start + y → start + y < next
@@ -143,7 +143,7 @@ module _ (l r : ℕ) (recipe s : List ℕ) (fine : recipe_checked recipe ≡ Fin
 
 -- what a piece leaves in the slice
 pub piece_run : (l r : ℕ) (recipe s stack out block : List ℕ) (at next start stop : ℕ)
-    → recipe_checked recipe ≡ Fine → at < next → next ≤ length s
+    → recipe_checked recipe ≡ Ok tt → at < next → next ≤ length s
     → start ≡ at - reach → stop ≡ min (next + reach) (length s)
     → take (length (mid_of start (stop - start) s) + margin) stack ≡ row_between l r recipe (mid_of start (stop - start) s)
     → length out ≡ length s → reach + next ≤ start + length stack

@@ -15,11 +15,12 @@ use Rattle.theory.proofs.Lists.{length-tab}
 use Rattle.theory.proofs.Sets.{within_le}
 use Rattle.theory.proofs.Canon.{form_cong}
 use Rattle.theory.proofs.Tables.{table_value, positive_fine}
-use Rattle.refusals.specs.Refusals.{answer_of, written}
+use Rattle.refusals.specs.Refusals.{and_then, written}
 use Rattle.refusals.specs.Shared.{room_checked}
 use Rattle.refusals.specs.Promise.{Gives}
-use Rattle.refusals.specs.declared.Checked.{Checked}
-use Rattle.refusals.specs.declared.Answer.{Answer}
+use Rattle.refusals.specs.Refusals.{Checked}
+use Rattle.std.specs.Prelude.{Result, Ok}
+use Rattle.refusals.specs.declared.Refusal.{Refusal}
 use Rattle.tables.specs.Tables.{bytes_checked, positive_checked, form_in, table_to_form_checked, TableToForm}
 
 module _ (f : ℕ → Bool) where
@@ -43,11 +44,11 @@ module _ (f : ℕ → Bool) where
   tabulated_checked pos lent = rw (eq-eqb (length (table_of table_bytes f)) table_bytes tabulated_length, tabulated_steady pos, tabulated_form)
 
   -- what table to form makes of it: 6 where fewer elements are lent than the form has terms, and nothing else is refused
-  pub tabulated_gives : Positive width f → (old new : List ℕ) (r : Answer) → TableToForm (table_of table_bytes f) old new r
+  pub tabulated_gives : Positive width f → (old new : List ℕ) (r : Result ℕ Refusal) → TableToForm (table_of table_bytes f) old new r
       → Gives (room_checked (length (form_of width f))) (length (form_of width f)) (form_of width f) old new r
   tabulated_gives pos old new r formed =
       let same = tabulated_checked pos (length old) in
       record {
-        answer = formed.answer ∙ ap₂ answer_of same (ap length tabulated_form);
+        answer = formed.answer ∙ ap₂ (λ (c : Checked) (k : ℕ). and_then c (Ok k)) same (ap length tabulated_form);
         out = formed.out ∙ ap₂ (λ (c : Checked) (F : List ℕ). written c F old) same tabulated_form;
       }

@@ -10,11 +10,11 @@ ghost use Rattle.theory.specs.Lists.{bit, first, any_below};
 ghost use Rattle.theory.specs.Sets.{has, gather, with_position};
 ghost use Rattle.theory.specs.Forms.{holds, minimal};
 ghost use Rattle.theory.specs.Tables.{table_at, table_of, slips};
-ghost use Rattle.tables.specs.Tables.{form_in, bytes_checked, table_to_form_checked, form_to_table_checked};
+ghost use Rattle.tables.specs.Tables.{form_in, bytes_checked, positive_checked};
 ghost use Rattle.tables.specs.Tables.{TableToForm, FormToTable};
 
 use limits::{BYTE_BITS, PATTERNS, TABLE_BYTES, WIDTH};
-use refusals::{Answer, Checked, Refusal};
+use refusals::Refusal;
 
 // What position i is worth.
 fn worth(i: usize) -> usize
@@ -48,12 +48,10 @@ fn slips_on(table: &[u8], v: usize) -> bool
     if !value_on(table, v) {
         return false;
     }
-    let mut i: usize = 0;
-    while i < WIDTH {
+    for i in 0..WIDTH {
         if loses_with(table, v, i) {
             return true;
         }
-        i += 1;
     }
     false
 }
@@ -63,12 +61,10 @@ fn first_slip(table: &[u8]) -> usize
     requires { length table.now ≡ table_bytes }
     ensures { result ≡ first (slips width (table_at table.now)) patterns }
 {
-    let mut v: usize = 0;
-    while v < PATTERNS {
+    for v in 0..PATTERNS {
         if slips_on(table, v) {
             return v;
         }
-        v += 1;
     }
     PATTERNS
 }
@@ -86,34 +82,31 @@ fn keeps_without(table: &[u8], v: usize, i: usize) -> bool
 
 // Whether v is a term of the table's form. One position less is enough to look at, since the table never slips.
 fn is_term(table: &[u8], v: usize) -> bool
-    requires { (length table.now ≡ table_bytes)
-        × (v < patterns)
-        × (any_below (slips width (table_at table.now)) patterns ≡ false) }
+    requires whole { length table.now ≡ table_bytes }
+    requires pattern { v < patterns }
+    requires steady { any_below (slips width (table_at table.now)) patterns ≡ false }
     ensures { result ≡ minimal (table_at table.now) v }
 {
     if !value_on(table, v) {
         return false;
     }
-    let mut i: usize = 0;
-    while i < WIDTH {
+    for i in 0..WIDTH {
         if keeps_without(table, v, i) {
             return false;
         }
-        i += 1;
     }
     true
 }
 
 // How many terms the table's form has.
 fn count_terms(table: &[u8]) -> usize
-    requires { (length table.now ≡ table_bytes) × (any_below (slips width (table_at table.now)) patterns ≡ false) }
+    requires whole { length table.now ≡ table_bytes }
+    requires steady { any_below (slips width (table_at table.now)) patterns ≡ false }
     ensures { result ≡ length (form_in table.now) }
 {
     let mut count: usize = 0;
-    let mut v: usize = 0;
-    while v < PATTERNS {
+    for v in 0..PATTERNS {
         count += bits::bit(is_term(table, v));
-        v += 1;
     }
     count
 }
@@ -133,69 +126,63 @@ fn put(terms: &mut [u16], n: usize, v: usize, kept: bool) -> usize
 
 // Writes the table's form from the start of a slice that has room, and answers its number of terms.
 fn fill_terms(table: &[u8], terms: &mut [u16]) -> usize
-    requires { (length table.now ≡ table_bytes)
-        × (any_below (slips width (table_at table.now)) patterns ≡ false)
-        × (length (form_in table.now) ≤ length terms.old) }
+    requires whole { length table.now ≡ table_bytes }
+    requires steady { any_below (slips width (table_at table.now)) patterns ≡ false }
+    requires room { length (form_in table.now) ≤ length terms.old }
     ensures value { result ≡ length (form_in table.now) }
     ensures terms_after { terms.new ≡ form_in table.now ++ drop (length (form_in table.now)) terms.old }
 {
     let mut n: usize = 0;
-    let mut v: usize = 0;
-    while v < PATTERNS {
+    for v in 0..PATTERNS {
         n = put(terms, n, v, is_term(table, v));
-        v += 1;
     }
     n
 }
 
 // Refusal 13, where a table slice is not 64 bytes.
-fn check_bytes(lent: usize) -> Checked
+#[tactic(auto, unfolding(crate::specs::Tables::bytes_checked))]
+fn check_bytes(lent: usize) -> Result<(), Refusal>
     ensures { result ≡ bytes_checked lent }
 {
-    refusals::refuse_if(lent != TABLE_BYTES, refusals::TABLE_LENGTH, lent)
+    if lent != TABLE_BYTES {
+        return Err(Refusal::TableLength(lent));
+    }
+    Ok(())
 }
 
-// What table to form refuses, with so many elements lent for terms: 13, 12, 6.
-#[tactic(auto, unfolding(crate::specs::Tables::table_to_form_checked, crate::specs::Tables::bytes_checked, crate::specs::Tables::positive_checked, theory::specs::Lists::any_below))]
-fn admit_table(table: &[u8], lent: usize) -> Checked
-    ensures { result ≡ table_to_form_checked table.now lent }
+// Refusal 12, where a table is not positive.
+#[tactic(auto, unfolding(crate::specs::Tables::positive_checked, theory::specs::Lists::any_below))]
+fn check_positive(table: &[u8]) -> Result<(), Refusal>
+    requires { length table.now ≡ table_bytes }
+    ensures { result ≡ positive_checked table.now }
 {
-    if table.len() != TABLE_BYTES {
-        return check_bytes(table.len());
-    }
     let v = first_slip(table);
     if v < PATTERNS {
-        return Checked::Refused(Refusal {
-            number: refusals::NOT_POSITIVE,
-            place: v,
-        });
+        return Err(Refusal::NotPositive(v));
     }
-    let needed = count_terms(table);
-    refusals::check_room(needed, lent)
+    Ok(())
 }
 
 // A truth table to its form: answers the number of terms, and writes the form from the start of `terms`.
 // Refuses 13 where the table is not 64 bytes, 12 where it is not positive, 6 where fewer elements are lent than the form has terms.
-pub fn table_to_form(table: &[u8], terms: &mut [u16]) -> Answer
+#[tactic(auto, unfolding(crate::specs::Tables::table_to_form_checked), using(crate::proofs::Accepted::fine_bytes, crate::proofs::Accepted::fine_steady, refusals::proofs::Shared::room_fine))]
+pub fn table_to_form(table: &[u8], terms: &mut [u16]) -> Result<usize, Refusal>
     ensures { TableToForm table.now terms.old terms.new result }
 {
-    let checked = admit_table(table, terms.len());
-    if let Checked::Refused(refusal) = checked {
-        return Answer::Refused(refusal);
-    }
-    Answer::Done(fill_terms(table, terms))
+    check_bytes(table.len())?;
+    check_positive(table)?;
+    refusals::check_room(count_terms(table), terms.len())?;
+    Ok(fill_terms(table, terms))
 }
 
 // The form's value on the pattern v.
 fn holds_on(terms: &[u16], v: u16) -> bool
     ensures { result ≡ holds terms.now v }
 {
-    let mut i = 0;
-    while i < terms.len() {
+    for i in 0..terms.len() {
         if bits::is_within(terms[i], v) {
             return true;
         }
-        i += 1;
     }
     false
 }
@@ -206,10 +193,8 @@ fn byte_of(terms: &[u16], j: usize) -> u8
     ensures { result ≡ gather byte_bits (λ i. holds terms.now (byte_bits * j + i)) }
 {
     let mut values = [false; BYTE_BITS];
-    let mut i: usize = 0;
-    while i < BYTE_BITS {
+    for i in 0..BYTE_BITS {
         values[i] = holds_on(terms, (BYTE_BITS * j + i) as u16);
-        i += 1;
     }
     bits::byte(values)
 }
@@ -219,29 +204,19 @@ fn fill_table(terms: &[u16], table: &mut [u8])
     requires { length table.old ≡ table_bytes }
     ensures { table.new ≡ table_of table_bytes (holds terms.now) }
 {
-    let mut j: usize = 0;
-    while j < TABLE_BYTES {
+    for j in 0..TABLE_BYTES {
         table[j] = byte_of(terms, j);
-        j += 1;
     }
-}
-
-// What form to table refuses, with so many bytes lent for the table: 7, 8, 13.
-fn admit_form(terms: &[u16], lent: usize) -> Checked
-    ensures { result ≡ form_to_table_checked terms.now lent }
-{
-    refusals::or_else(forms::check(WIDTH, terms), check_bytes(lent))
 }
 
 // A form to its truth table: answers the number of terms, and writes the table.
-// Refuses 7 and 8 where the terms are no form, 13 where the table lent is not 64 bytes.
-pub fn form_to_table(terms: &[u16], table: &mut [u8]) -> Answer
+// Refuses terms that are no form, then a table slice that is not 64 bytes.
+#[tactic(auto, unfolding(crate::specs::Tables::form_to_table_checked), using(crate::proofs::Accepted::fine_bytes))]
+pub fn form_to_table(terms: &[u16], table: &mut [u8]) -> Result<usize, Refusal>
     ensures { FormToTable terms.now table.old table.new result }
 {
-    let checked = admit_form(terms, table.len());
-    if let Checked::Refused(refusal) = checked {
-        return Answer::Refused(refusal);
-    }
+    forms::check(WIDTH, terms)?;
+    check_bytes(table.len())?;
     fill_table(terms, table);
-    Answer::Done(terms.len())
+    Ok(terms.len())
 }

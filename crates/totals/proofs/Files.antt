@@ -1,20 +1,19 @@
 -- What an outcome of a file adds to the totals: 1 to one of the nine numbers of files, and to every field at most 65,535 times 16,384.
 -- Assumes nothing.
+use Rattle.std.specs.Prelude.{Result, Err}
+use Rattle.refusals.specs.Numbers.{number_of}
+use Rattle.std.specs.Prelude.{Ok}
+use Rattle.refusals.specs.Refusals.{Checked, and_then}
 use Rattle.std.proofs.Common.{◌≡◌, ℕ, ◌*◌, ◌≤◌, eqb, List, refl, arith}
 use Rattle.limits.specs.Limits.{top, most_samples}
 use Rattle.theory.specs.Lists.{bit}
 use Rattle.theory.proofs.Lists.{bit_lt}
 use Rattle.refusals.specs.declared.Refusal.{Refusal}
-use Rattle.refusals.specs.declared.Checked.{Checked}
-use Rattle.refusals.specs.declared.Checked.TheVariants as checked
-use Rattle.refusals.specs.Refusals.{answered}
 use Rattle.files.specs.Layout.{counts_family}
 use Rattle.files.specs.Files.{file_checked}
 use Rattle.files.specs.Causes.{Bytes}
 use Rattle.files.proofs.Refused.{IfRefused, file_refused}
 use Rattle.reports.specs.declared.Counts.{Counts}
-use Rattle.reports.specs.declared.CountAnswer.{CountAnswer}
-use Rattle.reports.specs.declared.CountAnswer.TheVariants.{Counted, Refused}
 use Rattle.reports.specs.Counts.{counts_in, file_counted}
 use Rattle.reports.proofs.Bounds.{Most, accepted_most}
 use Rattle.totals.specs.declared.Outcome.{Outcome}
@@ -26,23 +25,23 @@ use Rattle.totals.proofs.Fields.{samples, changed, spikes, up, down}
 
 -- a refusal under one of the numbers that are counted
 abbrev Known : Refusal → Type 0
-Known r = files_in (adds (Opened (Refused r))) ≡ 1
+Known r = files_in (adds (Opened (Err r))) ≡ 1
 
 -- what is known of an outcome of a file
 abbrev pub Lands : Outcome → Type 0
 Lands Unopened = Unit
-Lands (Opened (Counted c)) = Most (top * most_samples) c
-Lands (Opened (Refused r)) = Known r
+Lands (Opened (Ok c)) = Most (top * most_samples) c
+Lands (Opened (Err r)) = Known r
 
 -- a claim holds of what counting a file answers where it holds of counts as large as a file's, and of the file's refusal
-pub by_count : (P : CountAnswer → Type 0) (f : List ℕ) → Bytes f → ((c : Counts) → Most (top * most_samples) c → P (Counted c))
-    → IfRefused (λ r. P (Refused r)) (file_checked counts_family f) → P (file_counted f)
+pub by_count : (P : Result Counts Refusal → Type 0) (f : List ℕ) → Bytes f → ((c : Counts) → Most (top * most_samples) c → P (Ok c))
+    → IfRefused (λ r. P (Err r)) (file_checked counts_family f) → P (file_counted f)
 by_count P f bytes counted = go (file_checked counts_family f) (accepted_most f bytes)
   where
-    go : (c : Checked) → (c ≡ checked.Fine → Most (top * most_samples) (counts_in f)) → IfRefused (λ r. P (Refused r)) c
-        → P (answered c (Counted (counts_in f)) Refused)
-    go checked.Fine most refused = counted (counts_in f) (most refl)
-    go (checked.Refused r) most refused = refused
+    go : (c : Checked) → (c ≡ Ok tt → Most (top * most_samples) (counts_in f)) → IfRefused (λ r. P (Err r)) c
+        → P (and_then c (Ok (counts_in f)))
+    go (Ok tt) most refused = counted (counts_in f) (most refl)
+    go (Err r) most refused = refused
 
 pub file_lands : {o : Outcome} → OfFile o → Lands o
 unfolding files_in adds of_unopened of_refused of_cleaned bit
@@ -54,8 +53,8 @@ file_lands (opened f bytes a e) =
 pub adds_one : (o : Outcome) → Lands o → files_in (adds o) ≡ 1
 unfolding files_in adds of_unopened of_refused of_cleaned
 adds_one Unopened l = refl
-adds_one (Opened (Counted c)) l = refl
-adds_one (Opened (Refused r)) l = l
+adds_one (Opened (Ok c)) l = refl
+adds_one (Opened (Err r)) l = l
 
 -- ---- it adds so much at the most
 
@@ -67,15 +66,15 @@ unopened_most (Opened a) = omega arith
 refused_most : (n : ℕ) (o : Outcome) → of_refused n o ≤ top * most_samples
 unfolding of_refused
 refused_most n Unopened = omega arith
-refused_most n (Opened (Counted c)) = omega arith
-refused_most n (Opened (Refused r)) = omega (arith, bit_lt (eqb r.number n))
+refused_most n (Opened (Ok c)) = omega arith
+refused_most n (Opened (Err r)) = omega (arith, bit_lt (eqb (number_of r) n))
 
 cleaned_most : (number : Counts → ℕ) → ((c : Counts) → Most (top * most_samples) c → number c ≤ top * most_samples)
     → (o : Outcome) → Lands o → of_cleaned number o ≤ top * most_samples
 unfolding of_cleaned
 cleaned_most number h Unopened l = omega arith
-cleaned_most number h (Opened (Counted c)) l = h c l
-cleaned_most number h (Opened (Refused r)) l = omega arith
+cleaned_most number h (Opened (Ok c)) l = h c l
+cleaned_most number h (Opened (Err r)) l = omega arith
 
 pub adds_most : (o : Outcome) → Lands o → (field : Field) → at field (adds o) ≤ top * most_samples
 unfolding adds

@@ -1,9 +1,10 @@
 -- The night sheet's totals: "files cleaned, files not opened, files refused under 7, 8, 9 and 11 (a count each), samples, changed
 -- samples, spikes and both residue totals". Those are request 1's words; request 3 puts 15, 16, 17 and 18 in the place of 11.
+use Rattle.std.specs.Prelude.{Ok, Err}
+use Rattle.refusals.specs.Numbers.{number_of}
 use Rattle.std.specs.Prelude.{ℕ, ◌+◌, ◌%◌, ◌^◌, List, [], ◌∷◌, ◌==◌}
 use Rattle.theory.specs.Lists.{bit}
 use Rattle.reports.specs.declared.Counts.{Counts}
-use Rattle.reports.specs.declared.CountAnswer.TheVariants.{Counted, Refused}
 use Rattle.totals.specs.declared.Outcome.{Outcome}
 use Rattle.totals.specs.declared.Outcome.TheVariants.{Unopened, Opened}
 use Rattle.totals.specs.declared.Totals.{Totals}
@@ -15,14 +16,14 @@ of_unopened (Opened a) = 0
 
 -- 1 for a file refused under a number
 unfoldable pub of_refused : ℕ → Outcome → ℕ
-of_refused n (Opened (Refused r)) = bit (r.number == n)
-of_refused n (Opened (Counted c)) = 0
+of_refused n (Opened (Err r)) = bit (number_of r == n)
+of_refused n (Opened (Ok c)) = 0
 of_refused n Unopened = 0
 
 -- a number of a cleaned file; 0 for another
 unfoldable pub of_cleaned : (Counts → ℕ) → Outcome → ℕ
-of_cleaned number (Opened (Counted c)) = number c
-of_cleaned number (Opened (Refused r)) = 0
+of_cleaned number (Opened (Ok c)) = number c
+of_cleaned number (Opened (Err r)) = 0
 of_cleaned number Unopened = 0
 
 -- what the outcome of one file adds to the totals

@@ -7,12 +7,12 @@
 
 ghost use Rattle.std.specs.Prelude.{◌≡◌, ◌==◌};
 ghost use Rattle.theory.specs.Lists.{bit};
-ghost use Rattle.reports.specs.declared.CountAnswer.TheVariants.{Counted, Refused};
+ghost use Rattle.refusals.specs.Numbers.{number_of};
 ghost use Rattle.totals.specs.declared.Outcome.TheVariants.{Unopened, Opened};
 ghost use Rattle.totals.specs.Totals.{adds, nothing, added};
 
 use refusals::Refusal;
-use reports::{CountAnswer, Counts};
+use reports::Counts;
 use std::num::wrapping_add_u64;
 
 // What became of a file of the list.
@@ -21,7 +21,7 @@ pub enum Outcome {
     // It could not be opened or read.
     Unopened,
     // It was read, and counted or refused.
-    Opened(CountAnswer),
+    Opened(Result<Counts, Refusal>),
 }
 
 // The numbers of the night sheet's last line.
@@ -70,10 +70,11 @@ pub fn start() -> Totals
 }
 
 // 1 where a refusal has a number, 0 where it has another.
+#[tactic(auto, unfolding(theory::specs::Lists::bit))]
 fn under(number: u8, refusal: Refusal) -> u64
-    ensures { result ≡ bit (refusal.number == number) }
+    ensures { result ≡ bit (number_of refusal == number) }
 {
-    if refusal.number == number { 1 } else { 0 }
+    if refusal.number() == number { 1 } else { 0 }
 }
 
 // What a file adds that was not opened.
@@ -87,22 +88,22 @@ fn of_unopened() -> Totals
 
 // What a file adds that was refused.
 fn of_refusal(refusal: Refusal) -> Totals
-    ensures { result ≡ adds (Opened (Refused refusal)) }
+    ensures { result ≡ adds (Opened (Err refusal)) }
 {
     let mut adds = start();
-    adds.seven = under(refusals::BAD_TERM, refusal);
-    adds.eight = under(refusals::TERM_COUNT, refusal);
-    adds.nine = under(refusals::SCAN_LENGTH, refusal);
-    adds.fifteen = under(refusals::FILE_LENGTH, refusal);
-    adds.sixteen = under(refusals::MARK, refusal);
-    adds.seventeen = under(refusals::TERM_DISTANCE, refusal);
-    adds.eighteen = under(refusals::SAMPLE_DISTANCE, refusal);
+    adds.seven = under(7, refusal);
+    adds.eight = under(8, refusal);
+    adds.nine = under(9, refusal);
+    adds.fifteen = under(15, refusal);
+    adds.sixteen = under(16, refusal);
+    adds.seventeen = under(17, refusal);
+    adds.eighteen = under(18, refusal);
     adds
 }
 
 // What a file adds that was cleaned.
 fn of_counts(counts: Counts) -> Totals
-    ensures { result ≡ adds (Opened (Counted counts)) }
+    ensures { result ≡ adds (Opened (Ok counts)) }
 {
     let mut adds = start();
     adds.cleaned = 1;
@@ -115,12 +116,12 @@ fn of_counts(counts: Counts) -> Totals
 }
 
 // What a file adds that was opened.
-fn of_answer(answer: CountAnswer) -> Totals
+fn of_answer(answer: Result<Counts, Refusal>) -> Totals
     ensures { result ≡ adds (Opened answer) }
 {
     match answer {
-        CountAnswer::Counted(counts) => of_counts(counts),
-        CountAnswer::Refused(refusal) => of_refusal(refusal),
+        Ok(counts) => of_counts(counts),
+        Err(refusal) => of_refusal(refusal),
     }
 }
 

@@ -1,6 +1,8 @@
 -- The twelve worked cases hold. Each is tested by computing (a form by its function on all patterns, a cleaned scan by its values), and one
 -- law turns the test into the claim.
 -- Assumes nothing.
+use Rattle.std.specs.Prelude.{Ok, Err}
+use Rattle.refusals.specs.Refusals.{Checked}
 use Prim.Native.Nat.{ℕ, suc, zero}
 use native.Mathlib.Omega.{arith}
 use mathlib.Core.Path.{◌≡◌, refl, ◌∙◌}
@@ -22,8 +24,6 @@ use Rattle.theory.proofs.Tests.{and_left, and_right}
 use Rattle.theory.proofs.Lists.{all_at, tab_cong}
 use Rattle.theory.proofs.Canon.{is_form, is_form_lem, sound, sound_valid, valid_terms, alike}
 use Rattle.theory.proofs.Demands.{Samples, filtered_value}
-use Rattle.refusals.specs.declared.Checked.{Checked}
-use Rattle.refusals.specs.declared.Checked.TheVariants as checked
 use Rattle.recipes.specs.Steps.{decoded_of, step_at, rank_fits, odd_set}
 use Rattle.recipes.specs.Machine.{added, replaced, joined, eroded, dilated, ranked_by, act, signals, both_reach, reaches}
 use Rattle.recipes.specs.Judge.{in_reach, onward, stepped, judged_from, bad_length, recipe_checked}
@@ -34,13 +34,13 @@ use Rattle.worked.specs.Cases.{Case, compiles, cleans, runs, Claim, cases}
 
 -- a check that finds nothing
 is_fine : Checked → Bool
-is_fine checked.Fine = true
-is_fine (checked.Refused r) = false
+is_fine Ok tt = true
+is_fine (Err r) = false
 
-fine_is : (c : Checked) → is_fine c ≡ true → c ≡ checked.Fine
+fine_is : (c : Checked) → is_fine c ≡ true → c ≡ Ok tt
 unfolding is_fine
-fine_is checked.Fine e = refl
-fine_is (checked.Refused r) e = let z : ◌≡◌ {A = ℕ} 0 1 = cc in absurd (omega arith)
+fine_is Ok tt e = refl
+fine_is (Err r) e = let z : ◌≡◌ {A = ℕ} 0 1 = cc in absurd (omega arith)
 
 -- two lists of numbers are one
 same_list : List ℕ → List ℕ → Bool

@@ -1,7 +1,7 @@
 -- The twelve worked cases of document 01 that are marked (P), in one table, and what each claims.
+use Rattle.std.specs.Prelude.{Ok}
 use Rattle.std.specs.Prelude.{ℕ, ◌≡◌, List, [], ◌∷◌}
 use Rattle.theory.specs.Signals.{held, cleaned}
-use Rattle.refusals.specs.declared.Checked.TheVariants.{Fine}
 use Rattle.recipes.specs.Judge.{recipe_checked}
 use Rattle.runner.specs.Run.{ran}
 use Rattle.compiler.specs.Compile.{compiled_form}
@@ -14,9 +14,9 @@ pub data Case : Type 0 where
 
 -- what a case claims, the ends held: the recipe is accepted; a cleaned scan is by the count of levels
 abbrev pub Claim : Case → Type 0
-Claim (compiles recipe form) = (recipe_checked recipe ≡ Fine) × (compiled_form recipe ≡ form)
+Claim (compiles recipe form) = (recipe_checked recipe ≡ Ok tt) × (compiled_form recipe ≡ form)
 Claim (cleans form scan out) = cleaned held form scan ≡ out
-Claim (runs recipe scan out) = (recipe_checked recipe ≡ Fine) × (ran held recipe scan ≡ out)
+Claim (runs recipe scan out) = (recipe_checked recipe ≡ Ok tt) × (ran held recipe scan ≡ out)
 
 -- the steps' bytes: code, rank, set (two bytes, low first)
 abbrev pub signal : List ℕ → List ℕ

@@ -1,5 +1,4 @@
 -- `compiler::read_bytes` meets its contract: the first j bytes are written. Assumes nothing.
-use Rattle.std.proofs.Common.{◌-◌, length}
 use Rattle.theory.proofs.Fills.{Filled}
 use Rattle.compiler.specs.Private.{middle_of}
 use Rattle.tables.proofs.Bytes.{byte_of}
@@ -7,6 +6,3 @@ use Rattle.compiler.proofs.read_bytes.Given as goal
 
 abbrev pub invariant-loop-j : goal.invariant-loop-j
 invariant-loop-j l = Filled (byte_of (middle_of l.out)) l.initial.bytes l.bytes l.j
-
-abbrev pub decreases-loop-j : goal.decreases-loop-j
-decreases-loop-j l = length l.initial.bytes - l.j

@@ -9,11 +9,11 @@ loop-i-preserved c =
     let a = c.args in
     let i = c.loop-i.i in
     let next : a.at + word_bytes * (i + 1) ≡ suc (suc (a.at + word_bytes * i)) = omega arith in
-    let rest = rw (drop-cons a.numbers.now i 0 (omega arith)) at c.loop-i.invariant.2 in
-    (omega arith, omega arith, rw (c.put_word.ensures, next, add-one i) rest)
+    let rest = rw (drop-cons a.numbers.now i 0 (omega arith)) at c.loop-i.invariant in
+    rw (c.put_word.ensures, next, add-one i) rest
 
 pub returns : goal.returns
 unfolding in_words
 returns c =
     let a = c.args in
-    rw (drop_of_length-le a.numbers.now {i = c.loop-i.i} (omega arith)) at c.loop-i.invariant.2
+    rw (drop_of_length-le a.numbers.now {i = c.loop-i.i} (omega arith)) at c.loop-i.invariant

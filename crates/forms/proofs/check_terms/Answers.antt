@@ -12,8 +12,8 @@ returns-then-is_bad c =
     let ts = c.args.terms.now in
     let bad = sym c.is_bad.ensures ∙ c.if-is_bad.true in
     rw (
-      any_below-at (is_bad w ts) (length ts) i (search rules) c.loop-i.invariant.1 bad,
-      first_at (is_bad w ts) (length ts) i (search rules) c.loop-i.invariant.1 bad,
+      any_below-at (is_bad w ts) (length ts) i (search rules) c.loop-i.invariant bad,
+      first_at (is_bad w ts) (length ts) i (search rules) c.loop-i.invariant bad,
     )
 
 pub returns : goal.returns
@@ -21,4 +21,4 @@ unfolding terms_checked
 returns c =
     let w = c.args.width in
     let ts = c.args.terms.now in
-    rw (any_below_none (is_bad w ts) (length ts) (λ k l. c.loop-i.invariant.1 k (omega arith)))
+    rw (any_below_none (is_bad w ts) (length ts) (λ k l. c.loop-i.invariant k (omega arith)))

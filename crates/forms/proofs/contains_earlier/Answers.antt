@@ -6,8 +6,8 @@ use Rattle.forms.proofs.contains_earlier.Goals as goal
 pub returns-then-is_within : goal.returns-then-is_within
 unfolding contains_earlier
 returns-then-is_within c =
-    sym (any_below-at _ _ c.loop-j.j (search rules) c.loop-j.invariant.1 (sym c.is_within.ensures ∙ c.if-is_within.true))
+    sym (any_below-at _ _ c.loop-j.j (search rules) c.loop-j.invariant (sym c.is_within.ensures ∙ c.if-is_within.true))
 
 pub returns : goal.returns
 unfolding contains_earlier
-returns c = sym (any_below_none _ _ (λ k l. c.loop-j.invariant.1 k (omega arith)))
+returns c = sym (any_below_none _ _ (λ k l. c.loop-j.invariant k (omega arith)))

@@ -2,12 +2,12 @@
 use Rattle.lines.specs.Lines.{outcome_line}
 use Rattle.lines.proofs.put_answer.Goals as goal
 
-pub returns-in-Counted : goal.returns-in-Counted
+pub returns-in-Ok : goal.returns-in-Ok
 unfolding outcome_line
-returns-in-Counted c =
-    rw c.in-Counted.is c.put_counts.ensures
+returns-in-Ok c =
+    rw c.in-Ok.is c.put_counts.ensures
 
-pub returns-in-Refused : goal.returns-in-Refused
+pub returns-in-Err : goal.returns-in-Err
 unfolding outcome_line
-returns-in-Refused c =
-    rw c.in-Refused.is c.put_refusal.ensures
+returns-in-Err c =
+    rw c.in-Err.is c.put_refusal.ensures

@@ -1,8 +1,8 @@
 -- `lists::check` meets its contract: the judge that went through the whole text has its verdict and its number of names.
 -- Assumes nothing.
 use Rattle.std.proofs.Common.{◌≡◌, sym, ap, ◌∙◌, ℕ, List}
-use Rattle.refusals.specs.declared.Checked.{Checked}
-use Rattle.refusals.specs.declared.Answer.TheVariants.{Done}
+use Rattle.refusals.specs.Refusals.{Checked}
+use Rattle.std.specs.Prelude.{Ok}
 use Rattle.lists.specs.declared.Judge.{Judge}
 use Rattle.lists.specs.Names.{list_checked}
 use Rattle.lists.specs.Judge.{fresh, closed, judged, verdict_of}
@@ -19,18 +19,12 @@ ruled : {k : Judge} {r : Checked} (text : List ℕ) → k ≡ judged fresh text 
 ruled text p q = sym (verdict_whole text) ∙ ap verdict_of (sym p) ∙ sym q
 
 pub close-requires : goal.close-requires
-close-requires c = not_over _ (fine_not_over _ (sym c.verdict-checked.ensures ∙ c.in-Fine.is))
+close-requires c = not_over _ (fine_not_over _ (sym c.in_ok-verdict.ensures))
 
-pub returns-in-Fine : goal.returns-in-Fine
-returns-in-Fine c =
+pub returns : goal.returns
+returns c =
     let text = c.args.text.now in
     let all = whole text c.start.ensures c.judge_piece-whole.ensures in
-    let fine = ruled text all c.verdict-checked.ensures ∙ c.in-Fine.is in
+    let fine = ruled text all c.in_ok-verdict.ensures in
     let few = fine_not_over (judged fresh text) (verdict_whole text ∙ fine) in
-    rw fine (ap Done (ap (λ (j : Judge). j.lines) (c.close.ensures ∙ ap closed all) ∙ names_counted text few))
-
-pub returns-in-Refused : goal.returns-in-Refused
-returns-in-Refused c =
-    let text = c.args.text.now in
-    let all = whole text c.start.ensures c.judge_piece-whole.ensures in
-    rw (ruled text all c.verdict-checked.ensures ∙ c.in-Refused.is)
+    rw fine (ap (λ (n : ℕ). Ok n) (ap (λ (j : Judge). j.lines) (c.close.ensures ∙ ap closed all) ∙ names_counted text few))

@@ -5,8 +5,8 @@ use Rattle.lists.proofs.judge_piece.Goals as goal
 pub loop-i-preserved : goal.loop-i-preserved
 loop-i-preserved c =
     let piece = c.args.piece.now in
-    (search rules, rw c.step-so_far.ensures (judged_turn c.loop-i.so_far piece c.loop-i.i (search rules) ∙ c.loop-i.invariant.1))
+    rw c.step-so_far.ensures (judged_turn c.loop-i.so_far piece c.loop-i.i (search rules) ∙ c.loop-i.invariant)
 
 pub returns : goal.returns
 returns c =
-    sym (judged-end c.loop-i.so_far c.args.piece.now c.loop-i.i (search rules)) ∙ c.loop-i.invariant.1
+    sym (judged-end c.loop-i.so_far c.args.piece.now c.loop-i.i (search rules)) ∙ c.loop-i.invariant

@@ -1,6 +1,4 @@
 -- `presets::tabulate` meets its contract: the first j bytes are written. Assumes nothing.
-use Rattle.std.proofs.Common.{◌-◌}
-use Rattle.limits.specs.Limits.{table_bytes}
 use Rattle.theory.proofs.Fills.{Filled}
 use Rattle.tables.proofs.Bytes.{byte_of}
 use Rattle.presets.specs.Presets.{on_window}
@@ -8,6 +6,3 @@ use Rattle.presets.proofs.tabulate.Given as goal
 
 abbrev pub invariant-loop-j : goal.invariant-loop-j
 invariant-loop-j l = Filled (byte_of (on_window l.small)) l.initial.table l.table l.j
-
-abbrev pub decreases-loop-j : goal.decreases-loop-j
-decreases-loop-j l = table_bytes - l.j

@@ -1,5 +1,5 @@
 -- `reports::count_residues` meets its contract. Assumes nothing.
-use Rattle.std.proofs.Common.{ℕ, ◌-◌, ◌*◌, ◌≤◌, ◌≡◌, List, length, get_or, ℤ, pos, ◌-ℤ◌}
+use Rattle.std.proofs.Common.{ℕ, ◌*◌, ◌≤◌, ◌≡◌, List, length, get_or, ℤ, pos, ◌-ℤ◌}
 use Rattle.limits.specs.Limits.{top}
 use Rattle.theory.specs.Lists.{bit, sum}
 use Rattle.reports.specs.Counts.{is_change, kind_of, above, below}
@@ -24,6 +24,3 @@ pub record Sums (scan cleaned : List ℕ) (changed spikes up down n : ℕ) : Typ
 
 abbrev pub invariant-loop-x : goal.invariant-loop-x
 invariant-loop-x l = Sums l.scan l.cleaned l.changed l.spikes l.up l.down l.x × (l.x ≤ length l.scan) × (l.before ≡ kind_before (kinds l.scan l.cleaned) l.x)
-
-abbrev pub decreases-loop-x : goal.decreases-loop-x
-decreases-loop-x l = length l.scan - l.x

@@ -11,7 +11,7 @@ returns-in_default c =
 
 pub perform-h-requires : goal.perform-h-requires
 perform-h-requires c =
-    let good = sym c.step_at-decoded.ensures ∙ c.in-Good.is in
+    let good = sym c.step_at-decoded.ensures ∙ c.in-Ok.is in
     let turn = c.loop-i in (
       record { short = omega arith; deep = search rules; few = going_few turn.invariant },
       search rules,
@@ -21,7 +21,7 @@ perform-h-requires c =
 pub loop-i-preserved : goal.loop-i-preserved
 loop-i-preserved c =
     let turn = c.loop-i in
-    let good = sym c.step_at-decoded.ensures ∙ c.in-Good.is in
+    let good = sym c.step_at-decoded.ensures ∙ c.in-Ok.is in
     going_on turn.invariant (omega arith) _ good _ c.work_of.ensures _ _ c.perform-h.ensures
 
 pub returns : goal.returns

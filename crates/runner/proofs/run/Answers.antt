@@ -1,5 +1,5 @@
 -- `runner::run` fills where nothing is refused, and leaves the slice as it was otherwise. Assumes nothing.
-use Rattle.std.proofs.Common.{sym, ◌∙◌, length}
+use Rattle.std.proofs.Common.{sym, length}
 use Rattle.theory.specs.Signals.{held}
 use Rattle.runner.proofs.Fine.{run_fine, run_written}
 use Rattle.runner.proofs.run.Goals as goal
@@ -7,14 +7,13 @@ use Rattle.runner.proofs.run.Goals as goal
 pub fill-requires : goal.fill-requires
 fill-requires c =
     let a = c.args in
-    let nothing = sym c.admit.ensures ∙ c.in-Fine.is in
-    let fine = run_fine a.recipe.now a.scan.now (length a.out.now) nothing in
+    let fine = run_fine a.recipe.now a.scan.now (length a.out.now) (sym c.in_ok-admit.ensures) in
     (fine.0, fine.1)
 
-pub returns-in-Fine : goal.returns-in-Fine
-returns-in-Fine c =
+pub returns : goal.returns
+returns c =
     let a = c.args in
-    let fine = sym c.admit.ensures ∙ c.in-Fine.is in
+    let fine = sym c.in_ok-admit.ensures in
     let ends = c.hold_ends-beyond.ensures in
     record {
       answer = rw fine;

@@ -1,5 +1,5 @@
 -- `scans::clean` meets its contract. Assumes nothing.
-use Rattle.std.proofs.Common.{arith}
+use Rattle.std.proofs.Common.{arith, sym, length}
 use Rattle.theory.specs.Signals.{cleaned}
 use Rattle.theory.proofs.Demands.{Samples}
 use Rattle.scans.proofs.Fine.{run_fine, run_gives}
@@ -8,12 +8,11 @@ use Rattle.scans.proofs.clean.Goals as goal
 pub fill-requires : goal.fill-requires
 fill-requires c =
     let a = c.args in
-    (run_fine a.terms.now a.scan.now c.admit_run.ensures c.in-Fine.is).2
+    (run_fine a.terms.now a.scan.now (length a.out.now) (sym c.in_ok-admit_run.ensures)).2
 
-pub returns-in-Fine : goal.returns-in-Fine
+pub returns : goal.returns
 unfolding cleaned
-returns-in-Fine c =
+returns c =
     let a = c.args in
     let small : Samples a.scan.now = λ k. omega (arith, c.type_inv.scan k) in
-    run_gives a.terms.now a.scan.now a.out.now c.admit_run.ensures (λ x v. v)
-    c.in-Fine.is c.hold_ends.ensures small c.fill.ensures
+    run_gives a.terms.now a.scan.now a.out.now (λ x v. v) (sym c.in_ok-admit_run.ensures) c.hold_ends.ensures small c.fill.ensures

@@ -9,7 +9,7 @@ pub returns-then-middle-value : goal.returns-then-middle-value
 unfolding differs root_found
 returns-then-middle-value c =
     let a = c.args in
-    let near = c.loop-x.invariant.2 in
+    let near = c.loop-x.invariant.1 in
     let here = c.move_on-here.ensures in
     let raw = raw_in near here c.middle.ensures (search rules) in
     let cleaned = cleaned_in near here a.terms.now c.value.ensures in
@@ -18,19 +18,19 @@ returns-then-middle-value c =
     let d = differs (value_around a.ends.left a.ends.right a.terms.now s) s in
     let differing : d x ≡ true = rw (← raw, ← cleaned, ne_eqb _ _ c.if-middle-value.true) in
     rw (
-      any_below-at d (length s) x (search rules) c.loop-x.invariant.1 differing,
-      first_at d (length s) x (search rules) c.loop-x.invariant.1 differing,
+      any_below-at d (length s) x (search rules) c.loop-x.invariant.0 differing,
+      first_at d (length s) x (search rules) c.loop-x.invariant.0 differing,
     )
 
 pub loop-x-preserved : goal.loop-x-preserved
 unfolding differs
 loop-x-preserved c =
     let a = c.args in
-    let near = c.loop-x.invariant.2 in
+    let near = c.loop-x.invariant.1 in
     let here = c.move_on-here.ensures in
     let raw = raw_in near here c.middle.ensures (search rules) in
     let cleaned = cleaned_in near here a.terms.now c.value.ensures in
-    (search rules, below_more _ _ c.loop-x.invariant.1 (rw (← raw, ← cleaned, eq-eqb _ _ c.if-middle-value.false)), here_in near here)
+    (below_more _ _ c.loop-x.invariant.0 (rw (← raw, ← cleaned, eq-eqb _ _ c.if-middle-value.false)), here_in near here)
 
 pub returns : goal.returns
 unfolding root_found
@@ -38,4 +38,4 @@ returns c =
     let a = c.args in
     let s = a.scan.now in
     let d = differs (value_around a.ends.left a.ends.right a.terms.now s) s in
-    rw (any_below_none d (length s) (λ k l. c.loop-x.invariant.1 k (omega arith)))
+    rw (any_below_none d (length s) (λ k l. c.loop-x.invariant.0 k (omega arith)))

@@ -1,5 +1,5 @@
 -- `tables::byte_of` meets its contract: the first i values are found. Assumes nothing.
-use Rattle.std.proofs.Common.{ℕ, ◌+◌, ◌*◌, ◌-◌, Bool, List}
+use Rattle.std.proofs.Common.{ℕ, ◌+◌, ◌*◌, Bool, List}
 use Rattle.limits.specs.Limits.{byte_bits}
 use Rattle.theory.specs.Forms.{holds}
 use Rattle.theory.proofs.Fills.{Filled}
@@ -11,6 +11,3 @@ on terms j k = holds terms (byte_bits * j + k)
 
 abbrev pub invariant-loop-i : goal.invariant-loop-i
 invariant-loop-i l = Filled (on l.terms l.j) l.initial.values l.values l.i
-
-abbrev pub decreases-loop-i : goal.decreases-loop-i
-decreases-loop-i l = byte_bits - l.i

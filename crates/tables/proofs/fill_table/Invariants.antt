@@ -1,6 +1,4 @@
 -- `tables::fill_table` meets its contract: the first j bytes are written. Assumes nothing.
-use Rattle.std.proofs.Common.{◌-◌}
-use Rattle.limits.specs.Limits.{table_bytes}
 use Rattle.theory.specs.Forms.{holds}
 use Rattle.theory.proofs.Fills.{Filled}
 use Rattle.tables.proofs.Bytes.{byte_of}
@@ -8,6 +6,3 @@ use Rattle.tables.proofs.fill_table.Given as goal
 
 abbrev pub invariant-loop-j : goal.invariant-loop-j
 invariant-loop-j l = Filled (byte_of (holds l.terms)) l.initial.table l.table l.j
-
-abbrev pub decreases-loop-j : goal.decreases-loop-j
-decreases-loop-j l = table_bytes - l.j

@@ -1,4 +1,4 @@
-use Rattle.std.proofs.Common.{rules, ◌<◌, arith, ◌≡◌, refl, sym, ap, ◌∙◌, true, length}
+use Rattle.std.proofs.Common.{◌<◌, arith, ◌≡◌, sym, ap, ◌∙◌, true, length}
 use Rattle.limits.specs.Limits.{patterns}
 use Rattle.theory.specs.Lists.{bit}
 use Rattle.theory.specs.Forms.{minimal, form_of}
@@ -8,7 +8,7 @@ use Rattle.theory.proofs.Keeps.{kept, kept_none, kept-length, kept_more, kept_ro
 use Rattle.tables.proofs.fill_terms.Goals as goal
 
 pub loop-v-init : goal.loop-v-init
-loop-v-init c = (search rules, refl, simp kept_none, simp kept_none)
+loop-v-init c = (simp kept_none, simp kept_none)
 
 pub put-n-requires : goal.put-n-requires
 unfolding form_in form_of kept
@@ -25,10 +25,8 @@ loop-v-preserved c =
     let one : bit term.result ≡ bit (p v) = ap bit term.ensures in
     let room : term.result ≡ true → length (kept p v) < length c.args.terms.now =
     λ e. omega (arith, kept_room p v patterns (omega arith) (sym term.ensures ∙ e)) in (
-      omega arith,
-      c.put-n.auto.terms ∙ c.loop-v.invariant.1,
       omega (arith, c.put-n.ensures.value, kept-length p v),
-      rw (c.put-n.ensures.terms_after, c.loop-v.invariant.3, c.loop-v.invariant.2)
+      rw (c.put-n.ensures.terms_after, c.loop-v.invariant.1, c.loop-v.invariant.0)
           (kept_more p c.args.terms.now v term.result (sym term.ensures) room),
     )
 
@@ -36,10 +34,10 @@ pub returns-clause-value : goal.returns-clause-value
 unfolding form_in form_of kept
 returns-clause-value c =
     let full : c.loop-v.v ≡ patterns = omega arith in
-    c.loop-v.invariant.2 ∙ rw full
+    c.loop-v.invariant.0 ∙ rw full
 
 pub returns-clause-terms_after : goal.returns-clause-terms_after
 unfolding form_in form_of kept
 returns-clause-terms_after c =
     let full : c.loop-v.v ≡ patterns = omega arith in
-    c.loop-v.invariant.3 ∙ rw full
+    c.loop-v.invariant.1 ∙ rw full

@@ -1,16 +1,10 @@
 -- `tables::fill_terms` meets its contract: the terms below v stand in front. Assumes nothing.
-use Rattle.std.proofs.Common.{◌-◌, ◌≤◌, ◌≡◌, ◌++◌, length, drop}
-use Rattle.limits.specs.Limits.{patterns}
+use Rattle.std.proofs.Common.{◌≡◌, ◌++◌, length, drop}
 use Rattle.theory.specs.Forms.{minimal}
 use Rattle.theory.specs.Tables.{table_at}
 use Rattle.theory.proofs.Keeps.{kept}
 use Rattle.tables.proofs.fill_terms.Given as goal
 
 abbrev pub invariant-loop-v : goal.invariant-loop-v
-invariant-loop-v l = (l.v ≤ patterns)
-    × (length l.terms ≡ length l.initial.terms)
-    × (l.n ≡ length (kept (minimal (table_at l.table)) l.v))
+invariant-loop-v l = (l.n ≡ length (kept (minimal (table_at l.table)) l.v))
     × (l.terms ≡ kept (minimal (table_at l.table)) l.v ++ drop (length (kept (minimal (table_at l.table)) l.v)) l.initial.terms)
-
-abbrev pub decreases-loop-v : goal.decreases-loop-v
-decreases-loop-v l = patterns - l.v

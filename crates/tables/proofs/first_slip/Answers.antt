@@ -5,7 +5,7 @@ use Rattle.tables.proofs.first_slip.Goals as goal
 
 pub returns-then-slips_on : goal.returns-then-slips_on
 returns-then-slips_on c =
-    sym (first_at _ patterns c.loop-v.v (omega arith) c.loop-v.invariant.1 (sym c.slips_on.ensures ∙ c.if-slips_on.true))
+    sym (first_at _ patterns c.loop-v.v (omega arith) c.loop-v.invariant (sym c.slips_on.ensures ∙ c.if-slips_on.true))
 
 pub returns : goal.returns
-returns c = sym (first_none _ patterns (λ k l. c.loop-v.invariant.1 k (omega arith)))
+returns c = sym (first_none _ patterns (λ k l. c.loop-v.invariant k (omega arith)))

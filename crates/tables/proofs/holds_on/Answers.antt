@@ -10,4 +10,4 @@ returns-then-is_within c =
 
 pub returns : goal.returns
 unfolding holds
-returns c = sym (index_no 0 _ _ (λ k l. c.loop-i.invariant.1 k (omega arith)))
+returns c = sym (index_no 0 _ _ (λ k l. c.loop-i.invariant k (omega arith)))

@@ -24,13 +24,13 @@ pub returns-then-keeps_without : goal.returns-then-keeps_without
 unfolding keeps_without
 returns-then-keeps_without c =
     let less = sym c.keeps_without.ensures ∙ c.if-keeps_without.true in
-    minimal_if _ _ c.requires.2 c.requires.1 c.loop-i.invariant.1 (below_by _ width c.loop-i.i (omega arith) less)
+    minimal_if _ _ c.requires.steady c.requires.pattern (sym c.value_on.ensures ∙ c.if-not-value_on.false) (below_by _ width c.loop-i.i (omega arith) less)
 
 pub loop-i-preserved : goal.loop-i-preserved
 unfolding keeps_without
 loop-i-preserved c =
-    (omega arith, c.loop-i.invariant.1, below_more _ _ c.loop-i.invariant.2 (sym c.keeps_without.ensures ∙ c.if-keeps_without.false))
+    below_more _ _ c.loop-i.invariant (sym c.keeps_without.ensures ∙ c.if-keeps_without.false)
 
 pub returns : goal.returns
 returns c =
-    minimal_if _ _ c.requires.2 c.requires.1 c.loop-i.invariant.1 (below_no _ width (λ k l. c.loop-i.invariant.2 k (omega arith)))
+    minimal_if _ _ c.requires.steady c.requires.pattern (sym c.value_on.ensures ∙ c.if-not-value_on.false) (below_no _ width (λ k l. c.loop-i.invariant k (omega arith)))

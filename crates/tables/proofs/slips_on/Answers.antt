@@ -11,9 +11,9 @@ returns-then-not-value_on c = rw (sym c.value_on.ensures ∙ c.if-not-value_on.t
 pub returns-then-loses_with : goal.returns-then-loses_with
 unfolding slips
 returns-then-loses_with c =
-    rw c.loop-i.invariant.1 (sym (below_by _ width c.loop-i.i (omega arith) (sym c.loses_with.ensures ∙ c.if-loses_with.true)))
+    rw (sym c.value_on.ensures ∙ c.if-not-value_on.false) (sym (below_by _ width c.loop-i.i (omega arith) (sym c.loses_with.ensures ∙ c.if-loses_with.true)))
 
 pub returns : goal.returns
 unfolding slips
 returns c =
-    rw c.loop-i.invariant.1 (sym (below_no _ width (λ k l. c.loop-i.invariant.2 k (omega arith))))
+    rw (sym c.value_on.ensures ∙ c.if-not-value_on.false) (sym (below_no _ width (λ k l. c.loop-i.invariant k (omega arith))))
