@@ -1,13 +1,7 @@
 -- A night's lines tell what became of each file, so the line below them has the totals of the lines above it.
 -- Assumes nothing.
-use Rattle.refusals.specs.Numbers.{number_of, place_of}
-use Rattle.refusals.specs.declared.Refusal.TheVariants.{RecipeLength, StepCode, StepField, SignalsHeld, FarReach, TermsLent, BadTerm, TermCount, ScanLength, OutputLength, NotPositive, TableLength, PresetNumber, FileLength, Mark, TermDistance, SampleDistance, BadName, NameCount}
-use Rattle.refusals.specs.declared.Refusal.{Refusal}
-use mathlib.Core.Bool.{cond}
-use lib.Dec.{eqb}
-use mathlib.Core.Path.{ap₂}
-use Rattle.std.specs.Prelude.{Err}
-use Rattle.std.specs.Prelude.{Ok}
+use Rattle.std.specs.Prelude.{Ok, Err}
+use Rattle.refusals.specs.Numbers.{notice}
 use Prim.Native.Nat.{ℕ, zero, suc, ◌/◌, ◌%◌, ◌^◌, ◌≤◌, ◌<◌}
 use native.Mathlib.Nat.{pow-suc, mod-lt, div-add-mod', div-lt_iff_lt-mul}
 use native.Mathlib.Omega.{arith}
@@ -130,35 +124,6 @@ some_field (Opened (Err r)) = omega arith
 field_told : (fs gs : List (List ℕ)) → fs ≡ gs → (k : ℕ) → get_or fs k [] ≡ get_or gs k []
 field_told fs gs e k = ap (λ (l : List (List ℕ)). get_or l k []) e
 
--- a refusal is told by its number and its place
-unfoldable from_number : ℕ → ℕ → Refusal
-from_number n p = cond (eqb n 1) (RecipeLength p) (cond (eqb n 2) (StepCode p) (cond (eqb n 3) (StepField p) (cond (eqb n 4) (SignalsHeld p) (cond (eqb n 5) (FarReach p) (cond (eqb n 6) (TermsLent p) (cond (eqb n 7) (BadTerm p) (cond (eqb n 8) (TermCount p) (cond (eqb n 9) (ScanLength p) (cond (eqb n 10) (OutputLength p) (cond (eqb n 12) (NotPositive p) (cond (eqb n 13) (TableLength p) (cond (eqb n 14) (PresetNumber p) (cond (eqb n 15) (FileLength p) (cond (eqb n 16) (Mark p) (cond (eqb n 17) (TermDistance p) (cond (eqb n 18) (SampleDistance p) (cond (eqb n 19) (BadName p) (NameCount p))))))))))))))))))
-
-from_back : (r : Refusal) → from_number (number_of r) (place_of r) ≡ r
-unfolding from_number
-from_back (RecipeLength p) = refl
-from_back (StepCode p) = refl
-from_back (StepField p) = refl
-from_back (SignalsHeld p) = refl
-from_back (FarReach p) = refl
-from_back (TermsLent p) = refl
-from_back (BadTerm p) = refl
-from_back (TermCount p) = refl
-from_back (ScanLength p) = refl
-from_back (OutputLength p) = refl
-from_back (NotPositive p) = refl
-from_back (TableLength p) = refl
-from_back (PresetNumber p) = refl
-from_back (FileLength p) = refl
-from_back (Mark p) = refl
-from_back (TermDistance p) = refl
-from_back (SampleDistance p) = refl
-from_back (BadName p) = refl
-from_back (NameCount p) = refl
-
-refusal_told : (r q : Refusal) → number_of r ≡ number_of q → place_of r ≡ place_of q → r ≡ q
-refusal_told r q n p = sym (from_back r) ∙ ap₂ from_number n p ∙ from_back q
-
 -- lines of different kinds have different numbers of fields
 kinds_told : {A : Type 0} {fs gs : List (List ℕ)} → (length fs ≡ length gs → ⊥) → fs ≡ gs → A
 kinds_told h e = absurd (h (ap length e))
@@ -182,7 +147,7 @@ outcome_told (Opened (Err r)) Unopened e = kinds_told (λ z. omega arith) e
 outcome_told (Opened (Err r)) (Opened (Ok c)) e = kinds_told (λ z. omega arith) e
 outcome_told (Opened (Err r)) (Opened (Err q)) e =
     let at = field_told (fields_of (Opened (Err r))) (fields_of (Opened (Err q))) e in
-    ap (λ (x : Refusal). Opened (Err x)) (refusal_told r q (decimal_told (at 1)) (decimal_told (at 2)))
+    λ i. Opened (Err (notice (decimal_told (at 1) i) (decimal_told (at 2) i)))
 
 line_some : (o : Outcome) (rest : List ℕ) → 0 < length (outcome_line o ++ rest)
 line_some o rest =

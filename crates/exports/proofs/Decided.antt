@@ -7,7 +7,8 @@ use Prim.Native.Nat.{ℕ}
 use mathlib.Core.Path.{◌≡◌, sym, ap, ◌∙◌}
 use mathlib.Core.List.{List}
 use Rattle.refusals.specs.declared.Refusal.{Refusal}
-use Rattle.refusals.specs.Numbers.{number_of, place_of}
+use Rattle.refusals.specs.declared.Notice.{Notice}
+use Rattle.refusals.specs.Numbers.{notice, notice_of}
 use Rattle.refusals.specs.Promise.{Gives}
 use Rattle.refusals.proofs.Decided.{gives_decided}
 use Rattle.compiler.specs.Compile.{Compile}
@@ -20,16 +21,17 @@ module _ {code code' value value' : ℕ} where
   told_decided one (given z p) (given z' q) =
       let same = one _ _ p q in
       (z ∙ sym z', cc, same.1)
-  told_decided one (given z p) (refused r n v q) =
+  told_decided one (given z p) (refused r q n) =
       let same = (one _ _ p q).0 in
       absurd (cc)
-  told_decided one (refused r n v p) (given z q) =
+  told_decided one (refused r p n) (given z q) =
       let same = (one _ _ p q).0 in
       absurd (cc)
-  told_decided one (refused r n v p) (refused r' n' v' q) =
+  told_decided one (refused r p n) (refused r' q n') =
       let same = one _ _ p q in
       let e : r ≡ r' = cc in
-      (n ∙ ap number_of e ∙ sym n', v ∙ ap place_of e ∙ sym v', same.1)
+      let told : notice code value ≡ notice code' value' = n ∙ ap notice_of e ∙ sym n' in
+      (ap (λ (x : Notice). x.number) told, ap (λ (x : Notice). x.place) told, same.1)
 
   -- the calls that answer a number and fill one slice
   pub slice_decided : {A : Type 0} {check : ℕ → Checked} {n : ℕ} {gift old new new' : List A}

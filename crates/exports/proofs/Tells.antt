@@ -25,7 +25,7 @@ use Rattle.exports.specs.Private.{sample_in, samples_in, terms_in, counted_in, f
 
 pub told : {P : Result ℕ Refusal → Type 0} {answer : Result ℕ Refusal} {code value : ℕ} → P answer → Told (λ a. a ≡ answer) code value → Told P code value
 told {P = P} p (given z e) = given z (subst P (sym e) p)
-told {P = P} p (refused r n v e) = refused r n v (subst P (sym e) p)
+told {P = P} p (refused r e n) = refused r (subst P (sym e) p) n
 
 -- what is made of an answer is made of either case
 told_of : {A : Type 0} (c : Checked) (f : Result A Refusal → Result ℕ Refusal) (a : A) (n : ℕ) → f (Ok a) ≡ Ok n → ((r : Refusal) → f (Err r) ≡ Err r)

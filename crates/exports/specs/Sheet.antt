@@ -1,6 +1,7 @@
 -- The night sheet in C: its totals as numbers in the order of its last line, and what a file makes of them.
 use Rattle.std.specs.Prelude.{ℕ, List, get_or}
 use Rattle.limits.specs.Limits.{line_bytes}
+use Rattle.refusals.specs.Numbers.{noticed}
 use Rattle.refusals.specs.Refusals.{kept}
 use Rattle.refusals.specs.Shared.{lent_checked}
 use Rattle.reports.specs.Counts.{file_counted}
@@ -12,7 +13,7 @@ use Rattle.lines.specs.Lines.{in_order}
 
 -- what becomes of the file f when it is opened: it is counted, or refused
 abbrev pub outcome_in : List ℕ → Outcome
-outcome_in f = Opened (file_counted f)
+outcome_in f = Opened (noticed (file_counted f))
 
 -- the numbers as totals
 abbrev pub totals_in : List ℕ → Totals

@@ -31,7 +31,7 @@ ghost use Rattle.exports.specs.Private.{sample_in, samples_in, terms_in, counted
 use files::Sizes;
 use limits::{LINE_BYTES, WIDTH};
 use lines::NUMBERS;
-use refusals::Refusal;
+use refusals::{Notice, Refusal};
 use reports::Counts;
 use totals::{Outcome, Totals};
 
@@ -47,8 +47,9 @@ fn tell(answer: Result<usize, Refusal>, value: &mut usize) -> u8
             0
         }
         Err(refusal) => {
-            *value = refusal.place();
-            refusal.number()
+            let notice = Notice::from(refusal);
+            *value = notice.place;
+            notice.number
         }
     }
 }
@@ -108,6 +109,13 @@ fn five_in(answer: Result<Counts, Refusal>, before: [u64; 5]) -> [u64; 5]
         ],
         Err(_) => before,
     }
+}
+
+// What becomes of a file that was read.
+fn outcome_in(file: &[u8]) -> Outcome
+    ensures { result ≡ outcome_in file.now }
+{
+    Outcome::from(reports::count(file))
 }
 
 // Numbers, in the order of the night sheet's last line, as its totals.
@@ -310,7 +318,7 @@ pub extern "C" fn sf_night_line(
         Told (Writes line_bytes (outcome_line o) out.old out.new) result value.new
         × (totals.new ≡ summed totals.old o (length out.old)) }
 {
-    let outcome = Outcome::Opened(reports::count(file));
+    let outcome = outcome_in(file);
     *totals = sum(*totals, outcome, out.len());
     tell(lines::outcome_line(outcome, out), value)
 }

@@ -9,6 +9,7 @@ use lib.ListN.{length}
 use Rattle.limits.specs.Limits.{width, top, most_samples, word_bytes}
 use Rattle.theory.specs.Forms.{is_bad}
 use Rattle.refusals.specs.declared.Refusal.{Refusal}
+use Rattle.refusals.specs.Numbers.{notice_of, noticed}
 use Rattle.files.specs.Bytes.{long_at}
 use Rattle.files.specs.Layout.{counts_family, samples_field, count_field, samples_back, terms_back, term_count, file_terms, sample_count}
 use Rattle.files.specs.Files.{file_checked}
@@ -28,7 +29,7 @@ counts_fit c m =
     (omega (arith, m.samples), (omega (arith, m.changed), (omega (arith, m.spikes), (omega (arith, m.up), (omega (arith, m.down), tt)))))
 
 abbrev RefusalFits : Refusal → Type 0
-RefusalFits r = Each Fits (numbers_of (Opened (Err r)))
+RefusalFits r = Each Fits (numbers_of (Opened (Err (notice_of r))))
 
 module _ (f : List ℕ) (bytes : Bytes f) (fits : Fits (length f)) where
   samples_most : sample_count counts_family f < 2 ^ 32
@@ -53,5 +54,5 @@ module _ (f : List ℕ) (bytes : Bytes f) (fits : Fits (length f)) where
       (omega arith, (omega (arith, samples_most), tt))
 
   -- whatever counting it answers
-  pub numbers_fit : Each Fits (numbers_of (Opened (file_counted f)))
+  pub numbers_fit : Each Fits (numbers_of (Opened (noticed (file_counted f))))
   numbers_fit = by_count (λ a. Each Fits (numbers_of (Opened a))) f bytes counts_fit refusal_fits

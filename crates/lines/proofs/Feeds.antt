@@ -9,6 +9,7 @@ use lib.Dec.{eqb}
 use borrow.Author.Tests.{ne_eqb}
 use Rattle.theory.specs.Lists.{all}
 use Rattle.theory.proofs.Tests.{and_left, and_right, and_both}
+use Rattle.refusals.specs.Numbers.{noticed}
 use Rattle.reports.specs.Counts.{file_counted}
 use Rattle.totals.specs.declared.Outcome.{Outcome}
 use Rattle.totals.specs.declared.Outcome.TheVariants.{Opened}
@@ -69,4 +70,4 @@ totals_feed t = rw (totals_fields t) (fields_feed [] (in_order t) tt)
 
 -- the line of any file does
 pub line_feed : (f : List ℕ) → OneFeed (report_line f)
-line_feed f = outcome_feed (Opened (file_counted f))
+line_feed f = outcome_feed (Opened (noticed (file_counted f)))

@@ -1,7 +1,6 @@
 -- The fields of every line: words, then numbers. A law of lines is proved of lists of fields, and holds of each line by these.
 -- Assumes nothing.
 use Rattle.std.specs.Prelude.{Ok, Err}
-use Rattle.refusals.specs.Numbers.{number_of, place_of}
 use Prim.Native.Nat.{ℕ, ◌^◌, ◌<◌}
 use mathlib.Core.Path.{◌≡◌, refl}
 use mathlib.Core.List.{List, [], ◌∷◌, ◌++◌, map}
@@ -48,7 +47,7 @@ words_of (Opened (Err r)) = refused_word ∷ []
 abbrev pub numbers_of : Outcome → List ℕ
 numbers_of Unopened = []
 numbers_of (Opened (Ok c)) = c.samples ∷ c.changed ∷ c.spikes ∷ c.up ∷ c.down ∷ []
-numbers_of (Opened (Err r)) = number_of r ∷ place_of r ∷ []
+numbers_of (Opened (Err r)) = r.number ∷ r.place ∷ []
 
 pub outcome_fields : (o : Outcome) → outcome_line o ≡ line_of (fields (words_of o) (numbers_of o))
 unfolding outcome_line unopened_line counts_line refused_line

@@ -11,6 +11,7 @@ use mathlib.Core.List.{List, [], ◌∷◌, ◌++◌}
 use lib.Dec.{lit≤}
 use lib.ListN.{length, drop, length-append}
 use Rattle.limits.specs.Limits.{line_bytes, totals_bytes}
+use Rattle.refusals.specs.Numbers.{noticed}
 use Rattle.refusals.specs.Promise.{Gives}
 use Rattle.refusals.proofs.Checks.{done_fine}
 use Rattle.files.specs.Causes.{Bytes}
@@ -61,7 +62,7 @@ outcome_short o h = rw (outcome_fields o) (line_most line_bytes (words_of o) (nu
 
 -- so has that of a file of bytes whose length is of 64 bits
 pub line_short : (f : List ℕ) → Bytes f → Fits (length f) → length (report_line f) ≤ line_bytes
-line_short f bytes fits = outcome_short (Opened (file_counted f)) (numbers_fit f bytes fits)
+line_short f bytes fits = outcome_short (Opened (noticed (file_counted f))) (numbers_fit f bytes fits)
 
 -- the line of any totals of 64 bits has room in 512
 pub totals_short : (t : Totals) → ((field : Field) → Fits (at field t)) → length (totals_line t) ≤ totals_bytes

@@ -1,13 +1,12 @@
 -- The lines that the report program and the night sheet print: "Single spaces stand between fields and one line feed at the end." Bytes
 -- are ASCII.
-use Rattle.std.specs.Prelude.{Ok, Err}
-use Rattle.refusals.specs.Numbers.{number_of, place_of}
-use Rattle.std.specs.Prelude.{Result}
-use Rattle.std.specs.Prelude.{ℕ, suc, ◌^◌, List, [], ◌∷◌, ◌++◌, map, ltb, length}
+use Rattle.std.specs.Prelude.{ℕ, suc, ◌^◌, List, [], ◌∷◌, ◌++◌, map, ltb, length, Result, Ok, Err}
 use Rattle.io.specs.Digits.{last_digits}
 use Rattle.limits.specs.Limits.{line_bytes}
 use Rattle.theory.specs.Lists.{first}
 use Rattle.refusals.specs.declared.Refusal.{Refusal}
+use Rattle.refusals.specs.declared.Notice.{Notice}
+use Rattle.refusals.specs.Numbers.{noticed}
 use Rattle.refusals.specs.Shared.{lent_checked}
 use Rattle.refusals.specs.Promise.{Gives}
 use Rattle.reports.specs.declared.Counts.{Counts}
@@ -40,8 +39,8 @@ unfoldable pub refused_word : List ℕ
 refused_word = 114 ∷ 101 ∷ 102 ∷ 117 ∷ 115 ∷ 101 ∷ 100 ∷ []
 
 -- `refused`, number, place
-unfoldable pub refused_line : Refusal → List ℕ
-refused_line r = line_of (refused_word ∷ decimal (number_of r) ∷ decimal (place_of r) ∷ [])
+unfoldable pub refused_line : Notice → List ℕ
+refused_line r = line_of (refused_word ∷ decimal r.number ∷ decimal r.place ∷ [])
 
 -- the word `unopened`
 unfoldable pub unopened_word : List ℕ
@@ -59,7 +58,7 @@ outcome_line (Opened (Err r)) = refused_line r
 
 -- the report's line of the file f: that of what counting it answers
 abbrev pub report_line : List ℕ → List ℕ
-report_line f = outcome_line (Opened (file_counted f))
+report_line f = outcome_line (Opened (noticed (file_counted f)))
 
 -- the totals in the order of the night sheet's last line: the files cleaned, not opened, refused under 7, 8, 9, 15, 16, 17 and 18; then the
 -- sums, in the order of a file's counts

@@ -11,7 +11,7 @@ ghost use Rattle.lines.specs.Lines.{decimal, line_of, counts_line, refused_line,
 ghost use Rattle.lines.specs.Private.{Put};
 
 use limits::{LINE_BYTES, TOTALS_BYTES};
-use refusals::Refusal;
+use refusals::{Notice, Refusal};
 use reports::Counts;
 use totals::{Outcome, Totals};
 
@@ -77,18 +77,18 @@ fn put_counts(counts: Counts, out: &mut [u8]) -> usize
 }
 
 // Puts the line of a refusal, and answers its length.
-fn put_refusal(refusal: Refusal, out: &mut [u8]) -> usize
+fn put_refusal(refusal: Notice, out: &mut [u8]) -> usize
     requires { length out.old ≡ line_bytes }
     ensures { Put (refused_line refusal) 0 out.old out.new result }
 {
-    let number = refusal.number() as u64;
-    let place = refusal.place() as u64;
+    let number = refusal.number as u64;
+    let place = refusal.place as u64;
     let at = put_field(b"refused", SPACE, 0, out);
     put_numbers(&[number, place], at, out)
 }
 
 // Puts the line of what a count answered, and answers its length.
-fn put_answer(answer: Result<Counts, Refusal>, out: &mut [u8]) -> usize
+fn put_answer(answer: Result<Counts, Notice>, out: &mut [u8]) -> usize
     requires { length out.old ≡ line_bytes }
     ensures { Put (outcome_line (Opened answer)) 0 out.old out.new result }
 {
@@ -149,7 +149,7 @@ pub fn outcome_line(outcome: Outcome, out: &mut [u8]) -> Result<usize, Refusal>
 }
 
 // Writes the line of a refused list, which is that of a refused file: `refused`, number, place. Refuses 10 as outcome_line does.
-pub fn refused_line(refusal: Refusal, out: &mut [u8]) -> Result<usize, Refusal>
+pub fn refused_line(refusal: Notice, out: &mut [u8]) -> Result<usize, Refusal>
     ensures { Writes line_bytes (refused_line refusal) out.old out.new result }
 {
     outcome_line(Outcome::Opened(Err(refusal)), out)
@@ -160,7 +160,7 @@ pub fn refused_line(refusal: Refusal, out: &mut [u8]) -> Result<usize, Refusal>
 pub fn line(file: &[u8], out: &mut [u8]) -> Result<usize, Refusal>
     ensures { Line file.now out.old out.new result }
 {
-    outcome_line(Outcome::Opened(reports::count(file)), out)
+    outcome_line(Outcome::from(reports::count(file)), out)
 }
 
 // Writes the night sheet's last line: its totals. Refuses 10 where the slice has not 512 bytes, more than any such line has.

@@ -1,7 +1,8 @@
 -- What an outcome of a file adds to the totals: 1 to one of the nine numbers of files, and to every field at most 65,535 times 16,384.
 -- Assumes nothing.
 use Rattle.std.specs.Prelude.{Result, Err}
-use Rattle.refusals.specs.Numbers.{number_of}
+use Rattle.refusals.specs.declared.Notice.{Notice}
+use Rattle.refusals.specs.Numbers.{notice_of, noticed}
 use Rattle.std.specs.Prelude.{Ok}
 use Rattle.refusals.specs.Refusals.{Checked, and_then}
 use Rattle.std.proofs.Common.{◌≡◌, ℕ, ◌*◌, ◌≤◌, eqb, List, refl, arith}
@@ -24,7 +25,7 @@ use Rattle.totals.proofs.Fields.{Field, at, cleaned, unopened, seven, eight, nin
 use Rattle.totals.proofs.Fields.{samples, changed, spikes, up, down}
 
 -- a refusal under one of the numbers that are counted
-abbrev Known : Refusal → Type 0
+abbrev Known : Notice → Type 0
 Known r = files_in (adds (Opened (Err r))) ≡ 1
 
 -- what is known of an outcome of a file
@@ -34,12 +35,12 @@ Lands (Opened (Ok c)) = Most (top * most_samples) c
 Lands (Opened (Err r)) = Known r
 
 -- a claim holds of what counting a file answers where it holds of counts as large as a file's, and of the file's refusal
-pub by_count : (P : Result Counts Refusal → Type 0) (f : List ℕ) → Bytes f → ((c : Counts) → Most (top * most_samples) c → P (Ok c))
-    → IfRefused (λ r. P (Err r)) (file_checked counts_family f) → P (file_counted f)
+pub by_count : (P : Result Counts Notice → Type 0) (f : List ℕ) → Bytes f → ((c : Counts) → Most (top * most_samples) c → P (Ok c))
+    → IfRefused (λ r. P (Err (notice_of r))) (file_checked counts_family f) → P (noticed (file_counted f))
 by_count P f bytes counted = go (file_checked counts_family f) (accepted_most f bytes)
   where
-    go : (c : Checked) → (c ≡ Ok tt → Most (top * most_samples) (counts_in f)) → IfRefused (λ r. P (Err r)) c
-        → P (and_then c (Ok (counts_in f)))
+    go : (c : Checked) → (c ≡ Ok tt → Most (top * most_samples) (counts_in f)) → IfRefused (λ r. P (Err (notice_of r))) c
+        → P (noticed (and_then c (Ok (counts_in f))))
     go (Ok tt) most refused = counted (counts_in f) (most refl)
     go (Err r) most refused = refused
 
@@ -47,7 +48,7 @@ pub file_lands : {o : Outcome} → OfFile o → Lands o
 unfolding files_in adds of_unopened of_refused of_cleaned bit
 file_lands not_opened = tt
 file_lands (opened f bytes a e) =
-    rw e (by_count (λ a. Lands (Opened a)) f bytes (λ c most. most) (file_refused Known counts_family f refl refl refl refl refl refl refl))
+    rw e (by_count (λ a. Lands (Opened a)) f bytes (λ c most. most) (file_refused (λ r. Known (notice_of r)) counts_family f refl refl refl refl refl refl refl))
 
 -- it is one file
 pub adds_one : (o : Outcome) → Lands o → files_in (adds o) ≡ 1
@@ -67,7 +68,7 @@ refused_most : (n : ℕ) (o : Outcome) → of_refused n o ≤ top * most_samples
 unfolding of_refused
 refused_most n Unopened = omega arith
 refused_most n (Opened (Ok c)) = omega arith
-refused_most n (Opened (Err r)) = omega (arith, bit_lt (eqb (number_of r) n))
+refused_most n (Opened (Err r)) = omega (arith, bit_lt (eqb r.number n))
 
 cleaned_most : (number : Counts → ℕ) → ((c : Counts) → Most (top * most_samples) c → number c ≤ top * most_samples)
     → (o : Outcome) → Lands o → of_cleaned number o ≤ top * most_samples

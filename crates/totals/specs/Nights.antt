@@ -1,6 +1,7 @@
 -- The words of the totals' laws that no contract cites: what becomes of a file, and the running totals.
 use Rattle.std.specs.Prelude.{Result}
 use Rattle.refusals.specs.declared.Refusal.{Refusal}
+use Rattle.refusals.specs.Numbers.{noticed}
 use Rattle.reports.specs.declared.Counts.{Counts}
 use Rattle.std.specs.Prelude.{ℕ, ◌+◌, List}
 use mathlib.Core.List.{Memᴰ, foldl}
@@ -14,7 +15,7 @@ use Rattle.totals.specs.Totals.{nothing, added}
 -- what can become of a file: it is not opened, or its bytes are counted
 pub data OfFile : Outcome → Type 0 where
   not_opened : OfFile Unopened
-  opened : (f : List ℕ) → Bytes f → (a : Result Counts Refusal) → Count f a → OfFile (Opened a)
+  opened : (f : List ℕ) → Bytes f → (a : Result Counts Refusal) → Count f a → OfFile (Opened (noticed a))
 
 -- every outcome is one of a file
 abbrev pub OfFiles : List Outcome → Type 0

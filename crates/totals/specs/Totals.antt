@@ -1,8 +1,6 @@
 -- The night sheet's totals: "files cleaned, files not opened, files refused under 7, 8, 9 and 11 (a count each), samples, changed
 -- samples, spikes and both residue totals". Those are request 1's words; request 3 puts 15, 16, 17 and 18 in the place of 11.
-use Rattle.std.specs.Prelude.{Ok, Err}
-use Rattle.refusals.specs.Numbers.{number_of}
-use Rattle.std.specs.Prelude.{ℕ, ◌+◌, ◌%◌, ◌^◌, List, [], ◌∷◌, ◌==◌}
+use Rattle.std.specs.Prelude.{ℕ, ◌+◌, ◌%◌, ◌^◌, List, [], ◌∷◌, ◌==◌, Ok, Err}
 use Rattle.theory.specs.Lists.{bit}
 use Rattle.reports.specs.declared.Counts.{Counts}
 use Rattle.totals.specs.declared.Outcome.{Outcome}
@@ -16,7 +14,7 @@ of_unopened (Opened a) = 0
 
 -- 1 for a file refused under a number
 unfoldable pub of_refused : ℕ → Outcome → ℕ
-of_refused n (Opened (Err r)) = bit (number_of r == n)
+of_refused n (Opened (Err r)) = bit (r.number == n)
 of_refused n (Opened (Ok c)) = 0
 of_refused n Unopened = 0
 

@@ -7,11 +7,11 @@
 
 ghost use Rattle.std.specs.Prelude.{◌≡◌, ◌==◌};
 ghost use Rattle.theory.specs.Lists.{bit};
-ghost use Rattle.refusals.specs.Numbers.{number_of};
+ghost use Rattle.refusals.specs.Numbers.{noticed};
 ghost use Rattle.totals.specs.declared.Outcome.TheVariants.{Unopened, Opened};
 ghost use Rattle.totals.specs.Totals.{adds, nothing, added};
 
-use refusals::Refusal;
+use refusals::{Notice, Refusal};
 use reports::Counts;
 use std::num::wrapping_add_u64;
 
@@ -21,7 +21,16 @@ pub enum Outcome {
     // It could not be opened or read.
     Unopened,
     // It was read, and counted or refused.
-    Opened(Result<Counts, Refusal>),
+    Opened(Result<Counts, Notice>),
+}
+
+impl From<Result<Counts, Refusal>> for Outcome {
+    ghost from_gives = { λ answer outcome. outcome ≡ Opened (noticed answer) };
+
+    // What became of a file that was read, from what counting it answered.
+    fn from(answer: Result<Counts, Refusal>) -> Outcome {
+        Outcome::Opened(answer.map_err(Notice::from))
+    }
 }
 
 // The numbers of the night sheet's last line.
@@ -71,10 +80,10 @@ pub fn start() -> Totals
 
 // 1 where a refusal has a number, 0 where it has another.
 #[tactic(auto, unfolding(theory::specs::Lists::bit))]
-fn under(number: u8, refusal: Refusal) -> u64
-    ensures { result ≡ bit (number_of refusal == number) }
+fn under(number: u8, refusal: Notice) -> u64
+    ensures { result ≡ bit (refusal.number == number) }
 {
-    if refusal.number() == number { 1 } else { 0 }
+    if refusal.number == number { 1 } else { 0 }
 }
 
 // What a file adds that was not opened.
@@ -87,7 +96,7 @@ fn of_unopened() -> Totals
 }
 
 // What a file adds that was refused.
-fn of_refusal(refusal: Refusal) -> Totals
+fn of_refusal(refusal: Notice) -> Totals
     ensures { result ≡ adds (Opened (Err refusal)) }
 {
     let mut adds = start();
@@ -116,7 +125,7 @@ fn of_counts(counts: Counts) -> Totals
 }
 
 // What a file adds that was opened.
-fn of_answer(answer: Result<Counts, Refusal>) -> Totals
+fn of_answer(answer: Result<Counts, Notice>) -> Totals
     ensures { result ≡ adds (Opened answer) }
 {
     match answer {

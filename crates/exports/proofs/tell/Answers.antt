@@ -7,4 +7,4 @@ pub returns-in-Ok : goal.returns-in-Ok
 returns-in-Ok c = given refl (sym c.in-Ok.is)
 
 pub returns-in-Err : goal.returns-in-Err
-returns-in-Err c = refused c.in-Err.refusal c.number.ensures c.place.ensures (sym c.in-Err.is)
+returns-in-Err c = refused c.in-Err.refusal (sym c.in-Err.is) c.from-notice.ensures

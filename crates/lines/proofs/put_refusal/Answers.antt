@@ -6,4 +6,4 @@ use Rattle.lines.proofs.put_refusal.Goals as goal
 pub returns : goal.returns
 unfolding refused_line refused_word line_of
 returns c =
-    rw (← c.number-number.ensures, ← c.place-place.ensures) (put_next refused_word 32 _ c.put_field-at.ensures c.put_numbers.ensures)
+    put_next refused_word 32 _ c.put_field-at.ensures c.put_numbers.ensures
