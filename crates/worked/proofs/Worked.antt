@@ -34,12 +34,12 @@ use Rattle.worked.specs.Cases.{Case, compiles, cleans, runs, Claim, cases}
 
 -- a check that finds nothing
 is_fine : Checked → Bool
-is_fine Ok tt = true
+is_fine (Ok done) = true
 is_fine (Err r) = false
 
 fine_is : (c : Checked) → is_fine c ≡ true → c ≡ Ok tt
 unfolding is_fine
-fine_is Ok tt e = refl
+fine_is (Ok tt) e = refl
 fine_is (Err r) e = let z : ◌≡◌ {A = ℕ} 0 1 = cc in absurd (omega arith)
 
 -- two lists of numbers are one
