@@ -30,8 +30,8 @@ fn reached(term: u16, i: usize, value: u16) -> u16
 
 // The smallest that the term reaches at positions i and i + 1. Both values are read before they are asked for, and no branch depends
 // on the term: so the compiler takes eight terms at a time.
-fn smallest_of_two(term: u16, near: &[u16], i: usize) -> u16
-    requires { (length near.now ≡ width) × (i + 2 ≤ width) }
+fn smallest_of_two(term: u16, near: &[u16; WIDTH], i: usize) -> u16
+    requires { i + 2 ≤ width }
     ensures { result ≡ smallest_in term near.now i 2 }
 {
     let j = i + 1;
@@ -39,8 +39,8 @@ fn smallest_of_two(term: u16, near: &[u16], i: usize) -> u16
 }
 
 // The smallest that the term reaches at four positions from i on.
-fn smallest_of_four(term: u16, near: &[u16], i: usize) -> u16
-    requires { (length near.now ≡ width) × (i + 4 ≤ width) }
+fn smallest_of_four(term: u16, near: &[u16; WIDTH], i: usize) -> u16
+    requires { i + 4 ≤ width }
     ensures { result ≡ smallest_in term near.now i 4 }
 {
     bits::smaller(
@@ -49,9 +49,9 @@ fn smallest_of_four(term: u16, near: &[u16], i: usize) -> u16
     )
 }
 
-// The smallest that the term reaches at all positions; the top for the term with no position.
-fn smallest(term: u16, near: &[u16]) -> u16
-    requires { length near.now ≡ width }
+// The smallest that the term reaches at all positions; the top for the term with no position. Not a loop over the nine: with it a form
+// of ten terms ran in 36.7 ns a sample for 12.8, as terms were no longer taken eight at a time.
+fn smallest(term: u16, near: &[u16; WIDTH]) -> u16
     ensures { result ≡ smallest_in term near.now 0 width }
 {
     let last = WIDTH - 1;
@@ -68,11 +68,9 @@ fn smallest(term: u16, near: &[u16]) -> u16
 pub fn value(terms: &[u16], near: [u16; WIDTH]) -> u16
     ensures { result ≡ value_of counts width 0 top terms.now (λ i. get_or near i 0) }
 {
-    let mut m: u16 = 0;
-    let mut k = 0;
-    while k < terms.len() {
-        m = bits::larger(m, smallest(terms[k], &near));
-        k += 1;
+    let mut m = 0;
+    for &term in terms {
+        m = bits::larger(m, smallest(term, &near));
     }
     m
 }

@@ -1,17 +1,23 @@
-use Rattle.std.proofs.Common.{rules, ℕ, ◌+◌, ◌*◌, ◌-◌, arith, ◌≡◌, sym, ap₂, ◌∙◌, Bool, false, get_or}
-use Rattle.limits.specs.Limits.{byte_bits}
-use Rattle.theory.specs.Sets.{gather}
-use Rattle.theory.proofs.Gathers.{gather_none, gather_more, gather_byte}
+use Rattle.std.proofs.Common.{arith, rules, ◌+◌, ◌*◌}
+use Rattle.bits.proofs.Bytes.{Gathered, gathered_none, gathered_more, gathered_fits, gathered_all, from_bool_is}
 use Rattle.bits.proofs.byte.Goals as goal
+use Rattle.bits.proofs.byte.Goals.{In-Some, After-from}
 
-pub loop-i-init : goal.loop-i-init
-loop-i-init c = (search rules, search rules, sym (gather_none _))
+pub loop-bit-init : goal.loop-bit-init
+loop-bit-init c =
+    rw (c.into_iter-bit-iterator.ensures.into_iter_gives, c.rev-bit-items.ensures.source, c.iter.ensures.rest) (gathered_none c.args.bits (search rules))
 
-pub loop-i-preserved : goal.loop-i-preserved
-loop-i-preserved c =
-    let bits = c.args.bits in
-    let i = c.loop-i.i in
-    let p : ℕ → Bool = λ k. get_or bits k false in
-    let more : c.loop-i.byte * 2 + c.bit.result ≡ gather (byte_bits - (i - 1)) (λ k. p ((i - 1) + k)) =
-    ap₂ (λ (x y : ℕ). x * 2 + y) c.loop-i.invariant.2 c.bit.ensures.0 ∙ sym (gather_more byte_bits i p (omega arith) (omega arith)) in
-    (omega arith, rw more (gather_byte (i - 1) _), more)
+more : (c : After-from) → Gathered c.args.bits c.next.new.self.iter.rest.now (c.loop-bit.byte * 2 + c.from.result)
+more c = rw (c.from.ensures, from_bool_is c.in-Some.field-0.now) (gathered_more c.args.bits _ _ _ _ c.loop-bit.invariant c.in-Some.ensures.steps)
+
+pub overflow_mul-byte : goal.overflow_mul-byte
+overflow_mul-byte c = omega (arith, gathered_fits _ _ _ (gathered_more c.args.bits _ _ _ _ c.loop-bit.invariant c.in-Some.ensures.steps))
+
+pub overflow_add-byte : goal.overflow_add-byte
+overflow_add-byte c = omega (arith, gathered_fits _ _ _ (more c))
+
+pub loop-bit-preserved : goal.loop-bit-preserved
+loop-bit-preserved c = more c
+
+pub returns : goal.returns
+returns c = gathered_all _ _ _ c.loop-bit.invariant c.in-None.ensures.steps.0

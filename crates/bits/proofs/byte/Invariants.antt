@@ -1,11 +1,6 @@
--- `bits::byte` meets its contract. The loop keeps: the bits from i on are gathered. Assumes nothing.
-use Rattle.std.proofs.Common.{◌+◌, ◌-◌, ◌^◌, ◌≤◌, ◌<◌, ◌≡◌, false, get_or}
-use Rattle.limits.specs.Limits.{byte_bits}
-use Rattle.theory.specs.Sets.{gather}
+-- `bits::byte` meets its contract. The loop keeps: the bits that the iterator has given are gathered. Assumes nothing.
+use Rattle.bits.proofs.Bytes.{Gathered}
 use Rattle.bits.proofs.byte.Given as goal
 
-abbrev pub invariant-loop-i : goal.invariant-loop-i
-invariant-loop-i l = (l.i ≤ byte_bits) × (l.byte < 2 ^ byte_bits) × (l.byte ≡ gather (byte_bits - l.i) (λ k. get_or l.bits (l.i + k) false))
-
-abbrev pub decreases-loop-i : goal.decreases-loop-i
-decreases-loop-i l = l.i
+abbrev pub invariant-loop-bit : goal.invariant-loop-bit
+invariant-loop-bit l = Gathered l.fn.bits l.bit-iterator.iter.rest.now l.byte

@@ -7,7 +7,7 @@ use Rattle.values.proofs.smallest.Goals as goal
 pub returns : goal.returns
 returns c =
     let a = c.args in
-    let small : Samples a.near.now = λ k. omega (arith, c.type_inv.near k) in
+    let small : Samples a.near.now = λ k. omega (arith, c.fits-near k) in
     smallest_join a.near.now a.term small 0 8 1
     (smallest_join a.near.now a.term small 0 4 4
     c.smallest_of_four.ensures

@@ -7,6 +7,6 @@ use Rattle.values.proofs.smallest_of_four.Goals as goal
 pub returns : goal.returns
 returns c =
     let a = c.args in
-    let small : Samples a.near.now = λ k. omega (arith, c.type_inv.near k) in
+    let small : Samples a.near.now = λ k. omega (arith, c.fits-near k) in
     smallest_join a.near.now a.term small a.i 2 2
     c.smallest_of_two.ensures c.smallest_of_two-2.ensures c.smaller.ensures
