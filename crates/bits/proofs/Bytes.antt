@@ -1,12 +1,12 @@
 -- A byte gathered from its highest bit down: what the loop over its bits keeps.
 -- Assumes nothing.
 use Rattle.std.proofs.Common.{ℕ, ◌+◌, ◌-◌, ◌*◌, ◌^◌, ◌≤◌, ◌<◌, arith, ◌≡◌, refl, sym, ap, ap₂, ◌∙◌, Bool, false, true, List, [], ◌∷◌, ◌++◌, length, take, get_or}
-use Rattle.std.proofs.lemmas.List.{length_push, get_or-take, take-take, take_all}
-use lib.Seq.{get_or-append_seam, take-append_seam}
+use Rattle.std.proofs.lemmas.List.{take_all}
 use Rattle.std.specs.Int.{from_bool}
 use Rattle.limits.specs.Limits.{byte_bits}
 use Rattle.theory.specs.Lists.{bit}
 use Rattle.theory.specs.Sets.{gather}
+use Rattle.bits.proofs.Backwards.{back_length, back_front, back_item}
 use Rattle.theory.proofs.Gathers.{gather_none, gather_more, gather_all, gather_byte}
 
 -- the bits left are the first ones, and byte is the others gathered
@@ -28,18 +28,14 @@ pub gathered_more : (bits left rest : List Bool) (x : Bool) (byte : ℕ) → Gat
     → Gathered bits rest (byte * 2 + bit x)
 gathered_more bits left rest x byte g e =
     let n = length rest in
-    let long : length left ≡ n + 1 = ap length e ∙ length_push rest x in
+    let long = back_length false bits left rest x g.first e in
     let few : length left ≤ byte_bits = g.few in
     let back : length left - 1 ≡ n = omega (arith, long) in
     let p : ℕ → Bool = λ k. get_or bits k false in
-    let here : x ≡ p (length left - 1) =
-    sym (get_or-append_seam rest x [] false)
-    ∙ ap (λ (l : List Bool). get_or l n false) (sym e ∙ g.first)
-    ∙ get_or-take (length left) bits n false (omega (arith, long))
-    ∙ ap p (sym back) in
+    let here : x ≡ p (length left - 1) = back_item false bits left rest x g.first e ∙ ap p (sym back) in
     record {
       few = omega (arith, long, few);
-      first = sym (take-append_seam rest (x ∷ [])) ∙ ap (take n) (sym e ∙ g.first) ∙ take-take n (length left) bits (omega (arith, long));
+      first = back_front false bits left rest x g.first e;
       others = ap₂ (λ (b : ℕ) (y : Bool). b * 2 + bit y) g.others here
           ∙ sym (gather_more byte_bits (length left) p (omega (arith, long)) g.few)
           ∙ ap (λ (m : ℕ). gather (byte_bits - m) (λ k. p (m + k))) back;

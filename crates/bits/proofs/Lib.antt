@@ -1,4 +1,5 @@
 -- The laws of these leaves.
 pub mod Sets
+pub mod Backwards
 pub mod Bytes
 pub mod Counts

@@ -3,23 +3,28 @@
 -- Assumes nothing.
 use mathlib.Core.Path.{◌≡◌, refl, sym, ap, ◌∙◌}
 use mathlib.Core.Bool.{Bool, true, false}
+use mathlib.Core.Logic.{◌⊎◌, inl, inr}
 use mathlib.Core.List.{List, [], ◌∷◌, map, Memᴰ}
-use Prim.Native.Nat.{ℕ, ◌≤◌, ◌<◌}
+use Prim.Native.Nat.{ℕ, ◌+◌, ◌≤◌, ◌<◌, min}
+use native.Mathlib.Nat.{zero-add}
 use native.Mathlib.Omega.{arith}
 use lib.Dec.{eqb}
 use lib.IntN.{sub_ℕ}
 use borrow.Author.Tests.{eq-eqb, ne_eqb}
+use Rattle.std.specs.Prelude.{Option, MatchOption, find}
 use Rattle.limits.specs.Limits.{reach, width}
 use Rattle.theory.specs.Lists.{first}
 use Rattle.theory.specs.Sets.{has, positions}
 use Rattle.theory.specs.Signals.{Window, wide, offset, offsets, window, leftmost}
 use Rattle.theory.proofs.Tests.{not_both}
-use Rattle.theory.proofs.Lists.{first_at}
+use Rattle.theory.proofs.Lists.{first_at, first_none}
+use Rattle.theory.proofs.Differences.{side}
 use Rattle.theory.proofs.Sets.{positions-at}
 use Rattle.theory.proofs.Offsets.{leftmost_column}
 use Rattle.theory.proofs.Signals.{Fair, window_fair}
 use Rattle.windows.specs.Columns.{position_in}
-use Rattle.windows.proofs.Searches.{first_passes, first_before}
+use Rattle.windows.specs.Private.{stands, columns}
+use Rattle.windows.proofs.Searches.{first_passes, first_before, find_from, match_map}
 
 -- the least column in which a position of the set stands; the width where none does
 abbrev pub least_column : ℕ → ℕ
@@ -39,8 +44,8 @@ module _ (W : Window) (fair : Fair W) where
       here i l e = sym (fair.position_column i (omega (arith, fair.position_lt k h))) ∙ ap fair.position e
 
   -- a position of the set does not stand in a column that lacks one
-  stands : (B i : ℕ) → (i < wide W) × (has B i ≡ true) → has B (fair.position (W.column i)) ≡ false → ⊥
-  stands B i m e = not_both m.1 (rw (fair.position_column i m.0) at e)
+  there : (B i : ℕ) → (i < wide W) × (has B i ≡ true) → has B (fair.position (W.column i)) ≡ false → ⊥
+  there B i m e = not_both m.1 (rw (fair.position_column i m.0) at e)
 
   -- a set that stands in no column has no offsets
   pub no_column : (B : ℕ) → ((k : ℕ) → k < wide W → has B (fair.position k) ≡ false) → offsets W B ≡ []
@@ -51,7 +56,7 @@ module _ (W : Window) (fair : Fair W) where
       go [] each = refl
       go (i ∷ is) each =
           let m = each i (Memᴰ.head refl) in
-          absurd (stands B i m (none (W.column i) (fair.column_lt i m.0)))
+          absurd (there B i m (none (W.column i) (fair.column_lt i m.0)))
 
 -- ---- the one window
 
@@ -59,28 +64,37 @@ pub position_is : (k : ℕ) → k < width → position_in k ≡ window_fair.posi
 unfolding position_in wide window
 position_is k h = position_found window window_fair k h
 
--- whether a set stands in column k, as the code finds it
-pub found_in : (B k : ℕ) {p : ℕ} {t b : Bool} → t ≡ has B p → p ≡ position_in k → t ≡ b → has B (position_in k) ≡ b
-found_in B k t p e = ap (has B) (sym p) ∙ sym t ∙ e
+-- no position stands beyond the columns
+pub position_capped : (k : ℕ) → min k width ≡ position_in k
+unfolding position_in window window_fair
+position_capped k = go (side k width)
+  where
+    go : (k < width) ⊎ (width ≤ k) → min k width ≡ position_in k
+    go (inl l) = let e : min k width ≡ k = omega arith in e ∙ sym (position_is k l)
+    go (inr h) = let e : min k width ≡ width = omega arith in e ∙ sym (first_none _ width (λ i l. ne_eqb i k (λ e. omega arith)))
 
--- and by the window's own position
-pub stands_in : (B k : ℕ) {b : Bool} → k < width → has B (position_in k) ≡ b → has B (window_fair.position k) ≡ b
+-- whether a set stands in column k, by the window's own position
+pub stands_in : (B k : ℕ) {b : Bool} → k < width → stands B k ≡ b → has B (window_fair.position k) ≡ b
+unfolding stands
 stands_in B k h e = rw (position_is k h) at e
 
 module _ (B : ℕ) where
-  -- whether it stands in column k
-  in_column : ℕ → Bool
-  in_column k = has B (position_in k)
-
   -- the least offset is that of the least column
   pub least_there : least_column B < width → leftmost (offsets window B) ≡ sub_ℕ (least_column B) reach
-  unfolding wide window in_column
+  unfolding wide window stands
   least_there h =
       leftmost_column window window_fair B (least_column B) h
-      (stands_in B (least_column B) h (first_passes in_column width h))
-      (λ j l. stands_in B j (omega arith) (first_before in_column width j l))
+      (stands_in B (least_column B) h (first_passes (stands B) width h))
+      (λ j l. stands_in B j (omega arith) (first_before (stands B) width j l))
 
   -- where there is none, the set has no offsets
   pub least_none : width ≤ least_column B → offsets window B ≡ []
-  unfolding wide window in_column
-  least_none h = no_column window window_fair B (λ k l. stands_in B k l (first_before in_column width k (omega arith)))
+  unfolding wide window stands
+  least_none h = no_column window window_fair B (λ k l. stands_in B k l (first_before (stands B) width k (omega arith)))
+
+  -- and it is the column that is found
+  pub least_found : {o : Option ℕ} → o ≡ find (stands B) columns
+      → MatchOption o (least_column B ≡ width) (λ k. (k ≡ least_column B) × (k < width))
+  unfolding stands
+  least_found e =
+      rw e (match_map (find (stands B) columns) (λ none. none) (λ k at. let e = at.0 ∙ zero-add (least_column B) in (e, rw e at.1)) (find_from (stands B) (stands B) 0 width (λ k. let e : k ≡ 0 + k = omega arith in ap (stands B) e)))

@@ -1,2 +1,3 @@
 -- What the contracts on positions and columns cite.
 pub mod Columns
+pub mod Private

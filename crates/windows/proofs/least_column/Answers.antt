@@ -1,13 +1,14 @@
-use Rattle.std.proofs.Common.{rules, arith, sym}
+-- `windows::least_column` meets its contract: it is the column that is found, or their number. Assumes nothing.
+use Rattle.std.proofs.Common.{ℕ, sym, ◌∙◌, ◌≡◌, ◌<◌}
+use Rattle.std.specs.Prelude.{Option, MatchOption, unwrap_or}
+use Rattle.std.specs.declared.option.Option.TheVariants as option
 use Rattle.limits.specs.Limits.{width}
-use Rattle.theory.proofs.Lists.{first_at, first_none}
-use Rattle.windows.proofs.Columns.{found_in}
+use Rattle.windows.proofs.Columns.{least_column, least_found}
 use Rattle.windows.proofs.least_column.Goals as goal
 
-pub returns-then-has : goal.returns-then-has
-returns-then-has c =
-    let here = found_in _ _ c.has.ensures c.position.ensures c.if-has.true in
-    sym (first_at _ width c.loop-k.k (search rules) c.loop-k.invariant.1 here)
+or_width : (o : Option ℕ) (n : ℕ) → MatchOption o (n ≡ width) (λ k. (k ≡ n) × (k < width)) → unwrap_or o 9 ≡ n
+or_width option.None n none = sym none
+or_width (option.Some k) n found = found.0
 
 pub returns : goal.returns
-returns c = sym (first_none _ width (λ j l. c.loop-k.invariant.1 j (omega arith)))
+returns c = c.unwrap_or.ensures ∙ or_width c.find_least.result (least_column c.args.set) (least_found c.args.set c.find_least.ensures)

@@ -5,19 +5,22 @@ use Rattle.limits.specs.Limits.{reach}
 use Rattle.theory.specs.Orders.{smallest}
 use Rattle.theory.specs.Signals.{leftmost}
 use Rattle.theory.proofs.Signs.{read_back}
-use Rattle.windows.proofs.Columns.{least_there, least_none}
+use Rattle.windows.proofs.Columns.{least_there, least_none, least_found}
 use Rattle.windows.proofs.least_offset.Goals as goal
 
-pub returns-then-k-lt-WIDTH : goal.returns-then-k-lt-WIDTH
-returns-then-k-lt-WIDTH c =
-    let set = c.args.set in
-    let k = c.least_column-k.ensures in
-    let least = least_there set (omega arith) in
-    rw (read_back c.offset.result c.offset.type_inv)
-    (c.offset.ensures.0 ∙ ap (λ (n : ℕ). sub_ℕ n reach) k ∙ sym least, c.offset.ensures.1)
+pub offset-requires : goal.offset-requires
+offset-requires c = (least_found c.args.set c.in-Some.ensures).1
 
-pub returns : goal.returns
+pub returns-in-Some : goal.returns-in-Some
+returns-in-Some c =
+    let set = c.args.set in
+    let found = least_found set c.in-Some.ensures in
+    let least = least_there set (omega (arith, found.0, found.1)) in
+    rw (read_back c.offset.result c.offset.type_inv)
+    (c.offset.ensures.0 ∙ ap (λ (n : ℕ). sub_ℕ n reach) found.0 ∙ sym least, c.offset.ensures.1)
+
+pub returns-in-None : goal.returns-in-None
 unfolding leftmost smallest
-returns c =
-    let k = c.least_column-k.ensures in
-    (rw (least_none c.args.set (omega arith)) refl, search rules)
+returns-in-None c =
+    let none = least_found c.args.set c.in-None.ensures in
+    (rw (least_none c.args.set (omega (arith, none))) refl, search rules)
