@@ -27,7 +27,7 @@ use Rattle.theory.proofs.Offsets.{leftmost_neg, rightmost_neg}
 use Rattle.theory.proofs.Truth.{Fits}
 use Rattle.theory.proofs.Steps.{moved-opening, moved_closing}
 use Rattle.rows.specs.declared.Change.{Change}
-use Rattle.rows.specs.declared.Change.TheVariants.{Stretch, OpenOrClose, Select}
+use Rattle.rows.specs.declared.Change.TheVariants.{Erode, Dilate, Open, Close, Rank}
 use Rattle.rows.specs.Sizes.{opening, longest_row}
 use Rattle.rows.specs.Private.{margin, extreme, turned, Sound}
 use Rattle.rows.specs.Rows.{is_wider}
@@ -46,9 +46,11 @@ both_plan high bs e = stretched_plan (not high) bs (stretched_plan high bs e)
 
 -- what a change makes of a plan
 abbrev pub plan_after : Change → Plan → Plan
-plan_after (Stretch B high) e = stretched_plan high (offsets window B) e
-plan_after (OpenOrClose B high) e = both_plan high (offsets window B) e
-plan_after (Select B k) e = near (the_kth k) (offsets window B) e
+plan_after (Erode B) e = stretched_plan false (offsets window B) e
+plan_after (Dilate B) e = stretched_plan true (offsets window B) e
+plan_after (Open B) e = both_plan false (offsets window B) e
+plan_after (Close B) e = both_plan true (offsets window B) e
+plan_after (Rank k B) e = near (the_kth k) (offsets window B) e
 
 -- ---- the inside of an opening or a closing
 
@@ -134,7 +136,7 @@ module _ (B : ℕ) (set : is_set width B ≡ true) where
   some_offsets = omega (arith, some_positions, length-map (positions width B) (offset window))
 
 -- a rank is 1 to the set's size
-pub rank_bounds : (B k : ℕ) → Sound (Select B k) → (is_set width B ≡ true) × (0 < k) × (k ≤ size window B)
+pub rank_bounds : (B k : ℕ) → Sound (Rank k B) → (is_set width B ≡ true) × (0 < k) × (k ≤ size window B)
 unfolding is_sound
 rank_bounds B k sound =
     let some = ltb 0 k in
@@ -183,7 +185,9 @@ module _ (l r : ℕ) (s : List ℕ) where
   pub changed_row : (by : Change) → Sound by → (e : Plan) → Fits window e → Fits window (plan_after by e)
       → after_change by l r (row_of e l r s) ≡ row_of (plan_after by e) l r s
   unfolding is_sound
-  changed_row (Stretch B high) sound e ok whole = stretched_row high (offsets window B) (some_offsets B sound) e ok
-  changed_row (OpenOrClose B high) sound e ok whole = both_row high (offsets window B) (some_offsets B sound) e ok whole
-  changed_row (Select B k) sound e ok whole =
+  changed_row (Erode B) sound e ok whole = stretched_row false (offsets window B) (some_offsets B sound) e ok
+  changed_row (Dilate B) sound e ok whole = stretched_row true (offsets window B) (some_offsets B sound) e ok
+  changed_row (Open B) sound e ok whole = both_row false (offsets window B) (some_offsets B sound) e ok whole
+  changed_row (Close B) sound e ok whole = both_row true (offsets window B) (some_offsets B sound) e ok whole
+  changed_row (Rank k B) sound e ok whole =
       picked_row l r s (the_kth k) (offsets window B) (some_offsets B (rank_bounds B k sound).0) e ok

@@ -1,18 +1,17 @@
 -- A part of a list that was lent and is back: what stands in it, before it and after it; a row in a list of rows; three parts that meet.
 -- Assumes nothing.
-use mathlib.Core.Path.{◌≡◌, sym, ap, ap₂, ◌∙◌}
+use mathlib.Core.Path.{◌≡◌, refl, sym, ap, ap₂, ◌∙◌}
 use mathlib.Core.List.{List, ◌∷◌, ◌++◌, append_assoc}
 use Prim.Native.Nat.{ℕ, zero, suc, ◌+◌, ◌-◌, ◌*◌, ◌≤◌, ◌<◌}
 use native.Mathlib.Nat.{zero-add, suc-add, mul-le-mul_right}
 use native.Mathlib.Omega.{arith}
 use lib.IntN.{sub_ℕ}
-use lib.ListN.{length, get_or, take, drop, length-take, length-drop, length-append, get_or-append}
-use lib.Seq.{sets, sets-eq, length-take-le, drop-drop, get_or-append-add, get_or-take, get_or-drop}
+use lib.ListN.{length, get_or, take, drop, length-take, length-drop, length-append, get_or-append, replicate}
+use lib.Seq.{ext_get_or, length-take-le, get_or-append-add, get_or-take, get_or-drop}
 use borrow.Rule.Slice.PartMut.{mid_of, put_mid, post_of}
 use Rattle.theory.specs.Lists.{tab}
 use Rattle.theory.specs.Signals.{between}
-use Rattle.theory.proofs.Lists.{length-tab, tab_cong}
-use Rattle.theory.proofs.Slices.{sets_three, sets_whole}
+use Rattle.theory.proofs.Lists.{length-tab, get_or-tab, tab_cong}
 use Rattle.theory.proofs.Signals.{between_left, between_inside, between_right}
 use Rattle.rows.specs.Rows.{widened}
 use Rattle.rows.specs.Private.{part}
@@ -22,6 +21,17 @@ pub tab_split : {A : Type 0} (a k : ℕ) (f : ℕ → A) → tab (a + k) f ≡ t
 unfolding tab
 tab_split {A} zero k f = simp zero-add
 tab_split {A} (suc a) k f = simp suc-add (ap (λ (l : List A). f 0 ∷ l) (tab_split a k (λ i. f (suc i))))
+
+-- a list by its elements
+pub part_whole : (s : List ℕ) → part (length s) 0 s ≡ s
+unfolding part
+part_whole s = ext_get_or 0 _ s (length-tab (length s) _) (λ i h. let z : i + 0 ≡ i = omega arith in
+    get_or-tab 0 (length s) _ i (omega (arith, length-tab (length s) (λ j. get_or s (j + 0) 0))) ∙ ap (λ (k : ℕ). get_or s k 0) z)
+
+pub replicated : (n v : ℕ) → replicate n v ≡ tab n (λ i. v)
+unfolding tab
+replicated zero v = refl
+replicated (suc n) v = ap (λ (l : List ℕ). v ∷ l) (replicated n v)
 
 -- ---- the k elements from a on
 
@@ -61,13 +71,6 @@ module _ (a k : ℕ) (xs ys : List ℕ) (fits : a + k ≤ length xs) (full : len
       ∙ get_or-drop k (drop a xs) j 0
       ∙ get_or-drop a xs (k + j) 0
       ∙ ap (λ (n : ℕ). get_or xs n 0) (omega arith)
-
-  -- as a run of stores
-  pub put_sets : put_mid a k xs ys ≡ sets xs a ys
-  put_sets =
-      ap (λ (zs : List ℕ). take a xs ++ (ys ++ zs)) (drop-drop k a xs ∙ ap (λ (n : ℕ). drop (a + n) xs) (sym full))
-      ∙ sym (append_assoc (take a xs) ys (drop (a + length ys) xs))
-      ∙ sym (sets-eq ys xs a (omega arith))
 
 -- ---- rows of m values one after the other in a list, and the r-th of n replaced
 
@@ -114,60 +117,9 @@ module _ (k l r : ℕ) (s : List ℕ) where
       middle : (j : ℕ) → j < length s → at (k + j) ≡ get_or s (j + 0) 0
       middle j h = between_inside l r s 0 (k + j) k (omega arith) (omega arith) ∙ ap (λ (i : ℕ). get_or s i 0) (omega arith)
 
-  -- its three parts were lent in turn, as p, q and t values
-  module _ (room A B C : List ℕ) (p q t : ℕ) (sized : length room ≡ length s + (k + k)) (ep : p ≡ k) (eq : q ≡ length s) (et : t ≡ k) where
-    abbrev one : List ℕ
-    one = put_mid 0 p room A
-
-    abbrev two : List ℕ
-    two = put_mid k q one B
-
-    module _ (is_a : A ≡ tab (length (mid_of 0 p room)) (λ i. l)) where
-      the_left : A ≡ tab k (λ i. l)
-      the_left = is_a ∙ ap (λ (n : ℕ). tab n (λ i. l)) (mid_length 0 p room (omega arith) ∙ ep)
-
-      full_left : length A ≡ p
-      full_left = ap length the_left ∙ length-tab k _ ∙ sym ep
-
-      long_one : length one ≡ length room
-      long_one = put-length 0 p room A (omega arith) full_left
-
-      module _ (is_b : B ≡ part (length (mid_of k q one)) 0 s) where
-        middle_length : length (mid_of k q one) ≡ length s
-        middle_length = mid_length k q one (omega (arith, long_one)) ∙ eq
-
-        the_middle : B ≡ part (length s) 0 s
-        the_middle = is_b ∙ ap (λ (n : ℕ). part n 0 s) middle_length
-
-        full_middle : length B ≡ q
-        unfolding part
-        full_middle = ap length the_middle ∙ length-tab (length s) _ ∙ sym eq
-
-        long_two : length two ≡ length room
-        long_two = put-length k q one B (omega (arith, long_one)) full_middle ∙ long_one
-
-        module _ (is_c : C ≡ tab (length (mid_of (k + length s) t two)) (λ i. r)) where
-          the_right : C ≡ tab k (λ i. r)
-          the_right = is_c ∙ ap (λ (n : ℕ). tab n (λ i. r)) (mid_length (k + length s) t two (omega (arith, long_two)) ∙ et)
-
-          full_right : length C ≡ t
-          full_right = ap length the_right ∙ length-tab k _ ∙ sym et
-
-          -- the three runs of stores are one
-          one_run : put_mid (k + length s) t two C ≡ sets room 0 (A ++ B ++ C)
-          one_run =
-              put_sets (k + length s) t two C (omega (arith, long_two)) full_right
-              ∙ ap (λ (x : List ℕ). sets x (k + length s) C)
-              (put_sets k q one B (omega (arith, long_one)) full_middle
-              ∙ ap (λ (x : List ℕ). sets x k B) (put_sets 0 p room A (omega arith) full_left))
-              ∙ sets_three room 0 k (k + length s) A B C (omega (arith, full_left)) (omega (arith, full_middle))
-
-          full : length (A ++ B ++ C) ≡ length room
-          full = length-append (A ++ B) C ∙ omega (arith, length-append A B, full_left, full_middle, full_right)
-
-          pub widened_by : put_mid (k + length s) t (put_mid k q (put_mid 0 p room A) B) C ≡ widened k l r s
-          widened_by =
-              one_run
-              ∙ sets_whole room (A ++ B ++ C) full
-              ∙ ap₂ (λ (x y : List ℕ). x ++ y) (ap₂ (λ (x y : List ℕ). x ++ y) the_left the_middle) the_right
-              ∙ sym widened_parts
+  -- as three fills make it
+  pub widened_by : replicate k l ++ (s ++ replicate k r) ≡ widened k l r s
+  widened_by =
+      sym (append_assoc (replicate k l) s (replicate k r))
+      ∙ ap₂ (λ (x y : List ℕ). x ++ y) (ap₂ (λ (x y : List ℕ). x ++ y) (replicated k l) (sym (part_whole s))) (replicated k r)
+      ∙ sym widened_parts

@@ -8,11 +8,11 @@ use native.Mathlib.Omega.{arith}
 use lib.Dec.{leb, eqb}
 use lib.ListN.{length, get_or, take, drop, length-drop}
 use lib.Seq.{ext_get_or, length-take-le, get_or-take, get_or-drop}
-use borrow.Author.Tests.{le-leb, lt-leb, eq-eqb, eqb-true}
+use borrow.Author.Tests.{le-leb, eq-eqb, eqb-true}
 use Rattle.theory.proofs.Tests.{same_test}
-use Rattle.theory.proofs.Lists.{length-tab, get_or-tab, tab_cong}
+use Rattle.theory.proofs.Lists.{length-tab, get_or-tab}
 use Rattle.rows.specs.Rows.{widened, paired, is_wider}
-use Rattle.rows.specs.Private.{part, chosen}
+use Rattle.rows.specs.Private.{part}
 
 -- a test that the code asks by its contrary
 pub passed : {b : Bool} → not b ≡ false → b ≡ true
@@ -38,6 +38,10 @@ part_is n from src h =
     ∙ ap (λ (k : ℕ). get_or src k 0) (omega arith)
     ∙ sym (get_or-tab 0 n _ i (omega (arith, long))))
 
+-- the same as a range of a slice has it
+pub part_lent : (n from : ℕ) (src : List ℕ) → from + n ≤ length src → take (from + n - from) (drop from src) ≡ part n from src
+part_lent n from src h = let e : from + n - from ≡ n = omega arith in rw e (part_is n from src h)
+
 -- ---- what the passes leave, as their contracts say it
 
 module _ (from : ℕ) (src dst : List ℕ) where
@@ -46,9 +50,6 @@ module _ (from : ℕ) (src dst : List ℕ) where
 
   pub copied_fits : from + length dst ≤ length src → copied ≡ part (length dst) from src
   copied_fits h = rw (le-leb _ _ h) (part_is (length dst) from src h)
-
-  pub copied_not : length src < from + length dst → copied ≡ dst
-  copied_not h = rw (lt-leb _ _ h)
 
 abbrev pub put_widened : ℕ → ℕ → ℕ → List ℕ → List ℕ → List ℕ
 put_widened k l r s room = cond (is_wider k s room) (widened k l r s) room
@@ -80,11 +81,3 @@ put_widened_fits k l r s room e = rw (wider_by k s room e)
 
 pub put_paired_fits : (high : Bool) (other row : List ℕ) → length other ≡ length row → put_paired high other row ≡ paired high other row
 put_paired_fits high other row e = rw (eq-eqb _ _ e)
-
--- a row is paired with what stands in front of the other
-pub paired_front : (high : Bool) (other row : List ℕ) → paired high (part (length row) 0 other) row ≡ paired high other row
-unfolding paired chosen
-paired_front high other row =
-    tab_cong (length row) _ _ (λ j h.
-    let z : j + 0 ≡ j = omega arith in
-    ap (λ (v : ℕ). chosen high v (get_or row j 0)) (part_at (length row) 0 other j h ∙ ap (λ (i : ℕ). get_or other i 0) z))

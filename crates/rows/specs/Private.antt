@@ -1,6 +1,6 @@
 -- Only private contracts cite this: sizes, parts of rows, the shifts at which a set is read in a row that is widened, and rows that fall at
 -- each index.
-use Rattle.std.specs.Prelude.{◌≡◌, Bool, true, false, cond, List, map, ℕ, suc, ◌+◌, ◌-◌, ◌*◌, ◌≤◌, ◌<◌, ℤ, neg_ℤ, length, get_or, take}
+use Rattle.std.specs.Prelude.{◌≡◌, Bool, true, false, cond, List, map, ℕ, suc, ◌+◌, ◌-◌, ◌*◌, ◌≤◌, ◌<◌, ℤ, neg_ℤ, length, get_or}
 use Rattle.limits.specs.Limits.{reach, width}
 use Rattle.theory.specs.Lists.{tab}
 use Rattle.theory.specs.Sets.{positions, is_set}
@@ -10,7 +10,7 @@ use Rattle.theory.specs.Signals.{window}
 use Rattle.rows.specs.Sizes.{opening, longest_row}
 use Rattle.rows.specs.declared.Change.{Change}
 use Rattle.rows.specs.Rows.{is_wider, widened}
-use Rattle.rows.specs.Changes.{is_sound, last_read, after_change}
+use Rattle.rows.specs.Changes.{is_sound, last_read, after_change, half, both}
 
 -- ---- sizes; src/lib.rt has the same numbers
 
@@ -70,6 +70,11 @@ pub record Applied (by : Change) (l r : ℕ) (row row' room' : List ℕ) : Type 
   pub result : row' ≡ after_change by l r row
   pub read : room' ≡ widened opening l r (last_read by l r row)
 
+-- the same of an opening, or where high a closing
+pub record Opened (high : Bool) (B l r : ℕ) (row row' room' : List ℕ) : Type 0 where
+  pub result : row' ≡ both high B l r row
+  pub read : room' ≡ widened opening l r (half high B l r row)
+
 -- the shift at which the column c is read where the column centre stands for offset 0: c further on, or mirrored, c further back
 unfoldable pub shift_of : Bool → ℕ → ℕ → ℕ
 shift_of mirrored centre c = cond mirrored (opening + centre - c) (opening + c - centre)
@@ -78,12 +83,11 @@ shift_of mirrored centre c = cond mirrored (opening + centre - c) (opening + c -
 unfoldable pub shifts_of : Bool → ℕ → ℕ → List ℕ
 shifts_of mirrored centre B = map (λ i. shift_of mirrored centre (window.column i)) (positions width B)
 
--- each of the first count shifts stays in the room, from each index of a row of n values
-pub record Reaching (n : ℕ) (room shifts : List ℕ) (count : ℕ) : Type 0 where
-  pub nonempty : 0 < count
-  pub few : count ≤ length shifts
+-- there are shifts, and each stays in the room, from each index of a row of n values
+pub record Reaching (n : ℕ) (room shifts : List ℕ) : Type 0 where
+  pub nonempty : 0 < length shifts
   pub wide : length room ≡ n + (opening + opening)
-  pub near : (t : ℕ) → t < count → get_or shifts t 0 ≤ opening + opening
+  pub near : (t : ℕ) → t < length shifts → get_or shifts t 0 ≤ opening + opening
 
 -- at each of n indices, what a pick takes of the values of w that the shifts reach
 unfoldable pub around : Pick → List ℕ → ℕ → List ℕ → List ℕ
@@ -99,7 +103,6 @@ down m r n l j = tab n (λ q. get_or l ((r + q) * m + j) 0)
 abbrev pub Inserted : ℕ → ℕ → List ℕ → List ℕ → List ℕ → Type 0
 Inserted m n old x new = (j : ℕ) → j < m → down m 0 (suc n) new j ≡ insert counts (get_or x j 0) (down m 0 n old j)
 
--- at each index, the first count rows have what the shifts reach, falling
-abbrev pub Sorted : ℕ → ℕ → List ℕ → List ℕ → List ℕ → Type 0
-Sorted m count shifts room rows =
-    (j : ℕ) → j < m → down m 0 count rows j ≡ falling counts (λ c. get_or room (j + c) 0) (take count shifts)
+-- at each index, as many rows as there are shifts have what these reach, falling
+abbrev pub Sorted : ℕ → List ℕ → List ℕ → List ℕ → Type 0
+Sorted m shifts room rows = (j : ℕ) → j < m → down m 0 (length shifts) rows j ≡ falling counts (λ c. get_or room (j + c) 0) shifts

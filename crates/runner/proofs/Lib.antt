@@ -1,5 +1,5 @@
 -- The laws of running a recipe on a stack of rows, piece by piece.
-pub mod Stacks
+pub mod Written
 pub mod Performs
 pub mod Pieces
 pub mod Fine

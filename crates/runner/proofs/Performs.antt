@@ -1,6 +1,5 @@
 -- What an accepted recipe's steps make of the stack: before each of them its rows are those of the plans that the steps before leave.
 -- Assumes nothing.
-use Rattle.std.specs.Prelude.{Ok, Err}
 use mathlib.Core.Path.{◌≡◌, refl, sym, ap, ◌∙◌, subst}
 use mathlib.Core.Bool.{Bool, true, false, cond}
 use mathlib.Core.List.{List, [], ◌∷◌, map}
@@ -21,6 +20,7 @@ use Rattle.theory.proofs.Tests.{which, not_both}
 use Rattle.theory.proofs.Lists.{tab_cong}
 use Rattle.theory.proofs.Orders.{Lawful, Strict, counts_lawful, counts_strict}
 use Rattle.refusals.specs.declared.Refusal.{Refusal}
+use Rattle.std.specs.Prelude.{Ok, Err}
 use Rattle.recipes.specs.declared.Step.{Step}
 use Rattle.recipes.specs.declared.Step.TheVariants.{Signal, Erode, Dilate, Open, Close, Rank, Median, Larger, Smaller}
 use Rattle.recipes.specs.Steps.{step_at}
@@ -30,16 +30,15 @@ use Rattle.recipes.proofs.Decodes.{IsSet, Sane}
 use Rattle.recipes.proofs.Plans.{plans, plan_of, signal_plan}
 use Rattle.recipes.proofs.Accepted.{AllFit, Underway, accepted_start, Advanced, accepted_turn, accepted_end}
 use Rattle.rows.specs.declared.Change.{Change}
-use Rattle.rows.specs.declared.Change.TheVariants.{Stretch, OpenOrClose, Select}
+use Rattle.rows.specs.declared.Change.TheVariants as change
 use Rattle.rows.specs.Private.{margin, Sound}
-use Rattle.rows.specs.Rows.{widened}
-use Rattle.rows.specs.Changes.{is_sound}
+use Rattle.rows.specs.Rows.{widened, paired}
+use Rattle.rows.specs.Changes.{is_sound, after_change}
 use Rattle.rows.proofs.Rows.{row_of, pair_of, scan_row, paired_row}
 use Rattle.rows.proofs.Changes.{plan_after, changed_row}
-use Rattle.runner.specs.declared.Work.{Work}
-use Rattle.runner.specs.declared.Work.TheVariants as work
-use Rattle.runner.specs.Private.{work_of, worked, rows_in, Ready, made_between, row_between}
-use Rattle.runner.proofs.Stacks.{length_rows}
+use Rattle.runner.specs.Private.{rows_in, made_between, row_between}
+use Rattle.runner.specs.Stacks.{performed, Ready}
+use Rattle.runner.proofs.Written.{length_rows}
 
 -- ---- the larger and the smaller of two, in either order
 
@@ -57,7 +56,7 @@ module _ {A : Type 0} (O : Lawful A) (strict : Strict O.leq) where
 
 -- ---- a step whose fields are allowed is a sound change
 
-rank_sound : (k B : ℕ) → IsSet B → 0 < k → k ≤ size window B → is_sound (Select B k) ≡ true
+rank_sound : (k B : ℕ) → IsSet B → 0 < k → k ≤ size window B → is_sound (change.Rank k B) ≡ true
 unfolding is_sound
 rank_sound k B h low few = rw (h, lt-ltb 0 k low, le-leb k (size window B) few)
 
@@ -71,11 +70,11 @@ module _ (l r : ℕ) (s : List ℕ) where
   abbrev rows_of : List Plan → List (List ℕ)
   rows_of st = map (λ e. row_of e l r s) st
 
-  -- a work can be done on the rows of some plans, and leaves the rows of others
-  abbrev Does : Work → List Plan → List Plan → Type 0
-  Does w st after = Ready w (length st) × (worked w l r s (rows_of st) ≡ some (rows_of after))
+  -- some rows are there, and become others
+  abbrev Does : Step → List Plan → List Plan → Type 0
+  Does w st after = Ready w (length st) × (performed w l r s (rows_of st) ≡ some (rows_of after))
 
-  add_does : (st after : List Plan) → added scan st ≡ some after → Does work.Add st after
+  add_does : (st after : List Plan) → added scan st ≡ some after → Does Signal st after
   unfolding added
   add_does st after h = rw (length-map st (λ e. row_of e l r s)) (go (which (ltb (length st) most_signals)))
     where
@@ -88,7 +87,7 @@ module _ (l r : ℕ) (s : List ℕ) where
       go (inr e) = never (rw e at h)
 
   change_does : (by : Change) → Sound by → (st after : List Plan) → AllFit st → AllFit after → replaced (plan_after by) st ≡ some after
-      → Does (work.Change by) st after
+      → ((0 < length st) × Sound by) × (replaced (after_change by l r) (rows_of st) ≡ some (rows_of after))
   unfolding replaced
   change_does by sound [] after ok left h = never h
   change_does by sound (e ∷ st) after ok left h =
@@ -102,7 +101,8 @@ module _ (l r : ℕ) (s : List ℕ) where
   either_way true a b = tab_cong (length s + margin) _ _ (λ j k. (turned counts_lawful counts_strict _ _).0)
   either_way false a b = tab_cong (length s + margin) _ _ (λ j k. (turned counts_lawful counts_strict _ _).1)
 
-  join_does : (high : Bool) (st after : List Plan) → joined (pair_of high) st ≡ some after → Does (work.Join high) st after
+  join_does : (high : Bool) (st after : List Plan) → joined (pair_of high) st ≡ some after
+      → (1 < length st) × (joined (λ under last. paired high last under) (rows_of st) ≡ some (rows_of after))
   unfolding joined
   join_does high [] after h = never h
   join_does high (e ∷ []) after h = never h
@@ -112,17 +112,17 @@ module _ (l r : ℕ) (s : List ℕ) where
 
   -- so a step leaves the rows of the plans that it leaves
   step_does : (step : Step) → Sane step → (st after : List Plan) → AllFit st → AllFit after → act plans step st ≡ some after
-      → Does (work_of step) st after
+      → Does step st after
   unfolding act plans eroded dilated ranked_by is_sound
   step_does Signal sane st after ok left h = add_does st after h
-  step_does (Erode B) sane st after ok left h = change_does (Stretch B false) sane st after ok left h
-  step_does (Dilate B) sane st after ok left h = change_does (Stretch B true) sane st after ok left h
-  step_does (Open B) sane st after ok left h = change_does (OpenOrClose B false) sane st after ok left h
-  step_does (Close B) sane st after ok left h = change_does (OpenOrClose B true) sane st after ok left h
-  step_does (Rank k B) sane st after ok left h = change_does (Select B k) (rank_sound k B sane.0 sane.1 sane.2) st after ok left h
+  step_does (Erode B) sane st after ok left h = change_does (change.Erode B) sane st after ok left h
+  step_does (Dilate B) sane st after ok left h = change_does (change.Dilate B) sane st after ok left h
+  step_does (Open B) sane st after ok left h = change_does (change.Open B) sane st after ok left h
+  step_does (Close B) sane st after ok left h = change_does (change.Close B) sane st after ok left h
+  step_does (Rank k B) sane st after ok left h = change_does (change.Rank k B) (rank_sound k B sane.0 sane.1 sane.2) st after ok left h
   step_does (Median B) sane st after ok left h =
       let k = (size window B + 1) / 2 in
-      change_does (Select B k) (rank_sound k B sane.0 (omega arith) (omega arith)) st after ok left h
+      change_does (change.Rank k B) (rank_sound k B sane.0 (omega arith) (omega arith)) st after ok left h
   step_does Larger sane st after ok left h = join_does true st after h
   step_does Smaller sane st after ok left h = join_does false st after h
 
@@ -143,10 +143,6 @@ going_start l r recipe s stack fine =
     record { planned = []; underway = rw z (accepted_start recipe fine); counted = refl; rows = refl }
 
 module _ {l r : ℕ} {recipe s stack : List ℕ} {n h i : ℕ} (at : Going l r recipe s stack n h i) where
-  -- they are no more than the stack has room for
-  pub going_few : h ≤ most_signals
-  going_few = omega (arith, at.counted, at.underway.few)
-
   module _ (more : i < n) where
     turn : Advanced recipe (n - (i + 1)) i at.planned (plan_of recipe)
     turn = accepted_turn recipe n i at.planned (plan_of recipe) more at.underway
@@ -155,26 +151,24 @@ module _ {l r : ℕ} {recipe s stack : List ℕ} {n h i : ℕ} (at : Going l r r
     pub going_good : {P : Type 0} (why : Refusal) → step_at recipe i ≡ Err why → P
     going_good why e = let z : ◌≡◌ {A = ℕ} 0 1 = cc turn.decoded in absurd (omega arith)
 
-    module _ (step : Step) (e : step_at recipe i ≡ Ok step) (w : Work) (is_work : w ≡ work_of step) where
-      same : work_of turn.step ≡ w
-      same = let q : turn.step ≡ step = cc (turn.decoded, e) in ap work_of q ∙ sym is_work
-
-      does : Does l r s w at.planned turn.after
+    module _ (step : Step) (e : step_at recipe i ≡ Ok step) where
+      does : Does l r s step at.planned turn.after
       does =
-          subst (λ (x : Work). Does l r s x at.planned turn.after) same
+          let q : turn.step ≡ step = cc (turn.decoded, e) in
+          subst (λ (x : Step). Does l r s x at.planned turn.after) q
           (step_does l r s turn.step turn.sane at.planned turn.after at.underway.fit turn.rest.fit turn.acted)
 
-      -- its work can be done
-      pub going_ready : Ready w h
-      going_ready = subst (Ready w) at.counted does.0
+      -- it can be performed
+      pub going_ready : Ready step h
+      going_ready = subst (Ready step) at.counted does.0
 
-      -- and leaves the rows of the plans that the step leaves
+      -- and leaves the rows of the plans that it leaves
       pub going_on : (stack' : List ℕ) (h' : ℕ)
-          → some (rows_in (length s + margin) h' stack') ≡ worked w l r s (rows_in (length s + margin) h stack)
+          → some (rows_in (length s + margin) h' stack') ≡ performed step l r s (rows_in (length s + margin) h stack)
           → Going l r recipe s stack' n h' (i + 1)
       going_on stack' h' is =
           let left : some (rows_in (length s + margin) h' stack') ≡ some (rows_of l r s turn.after) =
-          is ∙ ap (worked w l r s) at.rows ∙ does.1 in
+          is ∙ ap (performed step l r s) at.rows ∙ does.1 in
           let rows : rows_in (length s + margin) h' stack' ≡ rows_of l r s turn.after = cc in
           record {
             planned = turn.after;

@@ -4,11 +4,15 @@ use Rattle.theory.specs.Signals.{held}
 use Rattle.runner.proofs.Fine.{run_fine, run_written}
 use Rattle.runner.proofs.run.Goals as goal
 
+pub invariant_of-job : goal.invariant_of-job
+invariant_of-job c =
+    let a = c.args in
+    record { fine = (run_fine a.recipe.now a.scan.now (length a.out.now) (sym c.in_ok-admit.ensures)).0 }
+
 pub fill-requires : goal.fill-requires
 fill-requires c =
     let a = c.args in
-    let fine = run_fine a.recipe.now a.scan.now (length a.out.now) (sym c.in_ok-admit.ensures) in
-    (fine.0, fine.1)
+    (run_fine a.recipe.now a.scan.now (length a.out.now) (sym c.in_ok-admit.ensures)).1
 
 pub returns : goal.returns
 returns c =

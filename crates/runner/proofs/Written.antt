@@ -2,14 +2,16 @@
 -- Assumes nothing.
 use mathlib.Core.Path.{◌≡◌, refl, sym, ap, ap₂, ◌∙◌}
 use mathlib.Core.Bool.{Bool, cond}
-use mathlib.Core.List.{List, ◌∷◌, ◌++◌}
+use mathlib.Core.List.{List, ◌∷◌, ◌++◌, append_assoc}
 use mathlib.Core.Option.{some}
 use Prim.Native.Nat.{ℕ, zero, suc, ◌+◌, ◌-◌, ◌*◌, ◌≤◌, ◌<◌}
 use native.Mathlib.Omega.{arith}
 use lib.ListN.{length, get_or, take, drop, length-drop, take-append-drop}
-use lib.Seq.{ext_get_or, length-take-le, take-append-le, drop-append-le, take_at, drop_at}
+use lib.Seq.{ext_get_or, length-take-le, take-append-le, drop-append-le, take_at, drop_at, drop-drop}
 use borrow.Author.Tests.{lt-ltb, le-leb}
 use borrow.Rule.Slice.PartMut.{mid_of}
+use Rattle.std.proofs.lemmas.List.{drop-take}
+use Rattle.std.proofs.Common.{take-add}
 use Rattle.limits.specs.Limits.{reach, most_signals}
 use Rattle.theory.proofs.Lists.{length-tab, get_or-tab}
 use Rattle.recipes.specs.Machine.{added, replaced, joined}
@@ -20,7 +22,7 @@ use Rattle.rows.specs.Rows.{widened, paired}
 use Rattle.rows.specs.Changes.{after_change, can_change}
 use Rattle.rows.proofs.Passes.{copied, put_widened, put_paired, copied_fits, wider_by, put_widened_fits, put_paired_fits}
 use Rattle.rows.proofs.Parts.{mid_length, row_fits}
-use Rattle.runner.specs.Private.{rows_in, Stack}
+use Rattle.runner.specs.Private.{rows_in, Holds}
 
 pub length_rows : (m h : ℕ) (l : List ℕ) → length (rows_in m h l) ≡ h
 unfolding rows_in
@@ -55,18 +57,36 @@ row_written m r l new rest room full =
     ∙ sym (rows_front m r (take (r * m) l) (drop (r * m) l) front)
     ∙ ap (rows_in m r) (take-append-drop (r * m) l))
 
--- a list copied whole
-copied_whole : (src dst : List ℕ) → length dst ≡ length src → copied 0 src dst ≡ src
-unfolding part
-copied_whole src dst e =
-    copied_fits 0 src dst (omega arith)
-    ∙ ext_get_or 0 _ src (length-tab (length dst) _ ∙ e) (λ i h.
-    let same : i + 0 ≡ i = omega arith in
-    get_or-tab 0 (length dst) _ i (omega (arith, length-tab (length dst) (λ j. get_or src (j + 0) 0))) ∙ ap (λ (j : ℕ). get_or src j 0) same)
+-- two halves paired
+pub paired_halves : (high : Bool) (m : ℕ) (both lower upper new : List ℕ) → length both ≡ m + m → lower ≡ take m both → upper ≡ drop m both
+    → new ≡ put_paired high upper lower → new ++ upper ≡ paired high (drop m both) (take m both) ++ drop m both
+paired_halves high m both lower upper new long el eu e =
+    let front : length lower ≡ m = ap length el ∙ length-take-le m both (omega arith) in
+    let back : length upper ≡ m = ap length eu ∙ length-drop m both ∙ omega arith in
+    ap₂ (λ (a b : List ℕ). a ++ b) (e ∙ put_paired_fits high upper lower (back ∙ sym front) ∙ ap₂ (paired high) eu el) eu
+
+-- two neighbouring rows paired: the k elements from u on were lent, in two halves
+pub paired_in : (high : Bool) (u m k : ℕ) (values new lower upper : List ℕ) → k ≡ m + m → u + m + m ≤ length values
+    → lower ≡ take m (take k (drop u values)) → upper ≡ drop m (take k (drop u values)) → new ≡ paired high upper lower
+    → take u values ++ ((new ++ upper) ++ drop k (drop u values))
+    ≡ take u values ++ (paired high (take m (drop (u + m) values)) (take m (drop u values)) ++ drop (u + m) values)
+paired_in high u m k values new lower upper ek room el eu e =
+    let xs = drop u values in
+    let long : length xs ≡ length values - u = length-drop u values in
+    let next : drop m xs ≡ drop (u + m) values = drop-drop m u values in
+    let front : length (take m xs) ≡ m = length-take-le m xs (omega arith) in
+    let back : length (take m (drop m xs)) ≡ m = length-take-le m (drop m xs) (omega (arith, length-drop m xs)) in
+    let is_lower : lower ≡ take m xs = el ∙ rw (ek, take-add m m xs) (take_at (take m xs) (take m (drop m xs)) m front) in
+    let is_upper : upper ≡ take m (drop m xs) = eu ∙ rw ek (drop-take m m xs) in
+    let is : new ≡ paired high (take m (drop (u + m) values)) (take m xs) = e ∙ ap₂ (paired high) (is_upper ∙ ap (take m) next) is_lower in
+    let rest : upper ++ drop k xs ≡ drop (u + m) values =
+    ap₂ (λ (a b : List ℕ). a ++ b) is_upper (ap (λ (n : ℕ). drop n xs) ek ∙ sym (drop-drop m m xs)) ∙ take-append-drop m (drop m xs) ∙ next in
+    ap (λ (l : List ℕ). take u values ++ l)
+    (append_assoc new upper (drop k xs) ∙ ap₂ (λ (a b : List ℕ). a ++ b) is rest)
 
 -- ---- one step's work: row r is lent, the m elements from a on, and a new one is back in its place
 
-module _ {m : ℕ} {stack : List ℕ} {h : ℕ} (st : Stack m stack h) where
+module _ {m : ℕ} {stack : List ℕ} {h : ℕ} (st : Holds m stack h) where
   -- a row of the stack, as it is lent from a on
   abbrev lent : ℕ → List ℕ
   lent a = mid_of a (a + m - a) stack
@@ -114,24 +134,41 @@ module _ {m : ℕ} {stack : List ℕ} {h : ℕ} (st : Stack m stack h) where
       let is : new ≡ after_change by l r (lent a) = rw (sound, le-leb _ _ short, wider) at e in
       rw (lent_last (h - 1) a below place h last, ← is) (ap some (back_last (h - 1) a below place h new rest last same))
 
-  -- the last two rows become one: the last is copied to the front of the room, and from there paired with the row below it
-  pub joined_last : (high : Bool) (a b : ℕ) (new x room rest rest' : List ℕ) → 1 < h → a ≡ (h - 2) * m → b ≡ (h - 1) * m
-      → m ≤ length room → x ≡ copied 0 (lent b) (mid_of 0 (m - 0) room)
-      → length new ≡ length (lent a) → new ≡ put_paired high (mid_of 0 (m - 0) (take 0 room ++ (x ++ rest'))) (lent a)
-      → some (rows_in m (h - 1) (take a stack ++ (new ++ rest))) ≡ joined (λ under last. paired high last under) (rows_in m h stack)
-  unfolding joined
-  joined_last high a b new x room rest rest' more place_a place_b wide ex same e =
+  -- the last two rows stand one after the other
+  module _ (more : 1 < h) (a : ℕ) (place : a ≡ (h - 2) * m) where
+    next : a + m ≡ (h - 1) * m
+    next =
+        let n : h - 1 ≡ suc (h - 2) = omega arith in
+        rw (place, n) (omega arith)
+
+    pub two_rows : a + m + m ≤ length stack
+    two_rows = rw next (fits (h - 1) (a + m) (omega (arith, st.few)) next)
+
+  -- and become one
+  joined_rows : (high : Bool) (a : ℕ) (new : List ℕ) → 1 < h → a ≡ (h - 2) * m
+      → new ≡ take a stack ++ (paired high (take m (drop (a + m) stack)) (take m (drop a stack)) ++ drop (a + m) stack)
+      → some (rows_in m (h - 1) new) ≡ joined (λ under last. paired high last under) (rows_in m h stack)
+  unfolding joined paired
+  joined_rows high a new more place e =
       let last : h ≡ suc (h - 1) = omega arith in
       let under : h - 1 ≡ suc (h - 2) = omega arith in
       let below_b : h - 1 < most_signals = omega (arith, st.few) in
       let below_a : h - 2 < most_signals = omega (arith, st.few) in
-      let long_b = lent_length (h - 1) b below_b place_b in
-      let long_a = lent_length (h - 2) a below_a place_a in
-      let front : length (mid_of 0 (m - 0) room) ≡ length (lent b) = mid_length 0 (m - 0) room (omega arith) ∙ omega arith in
-      let copy : x ≡ lent b = ex ∙ copied_whole (lent b) (mid_of 0 (m - 0) room) front in
-      let full : length x ≡ m - 0 = ap length copy ∙ omega arith in
-      let read : mid_of 0 (m - 0) (take 0 room ++ (x ++ rest')) ≡ lent b = part_back 0 (m - 0) room x rest' (omega arith) full ∙ copy in
-      let is : new ≡ paired high (lent b) (lent a) =
-      e ∙ ap (λ (y : List ℕ). put_paired high y (lent a)) read ∙ put_paired_fits high (lent b) (lent a) (long_b ∙ sym long_a) in
-      rw (lent_last (h - 1) b below_b place_b h last, lent_last (h - 2) a below_a place_a (h - 1) under, ← is)
-      (ap some (back_last (h - 2) a below_a place_a (h - 1) new rest under same))
+      let sized : a + m - a ≡ m = omega arith in
+      let sized' : a + m + m - (a + m) ≡ m = omega arith in
+      let top : rows_in m h stack ≡ take m (drop (a + m) stack) ∷ rows_in m (h - 1) stack =
+      rw sized' at (lent_last (h - 1) (a + m) below_b (next more a place) h last) in
+      let rest : rows_in m (h - 1) stack ≡ take m (drop a stack) ∷ rows_in m (h - 2) stack =
+      rw sized at (lent_last (h - 2) a below_a place (h - 1) under) in
+      let pair = paired high (take m (drop (a + m) stack)) (take m (drop a stack)) in
+      rw (top, rest, e)
+      (ap some (back_last (h - 2) a below_a place (h - 1) pair (drop (a + m) stack) under (length-tab (length (take m (drop a stack))) _ ∙ rw sized refl)))
+
+  pub joined_last : (high : Bool) (a k : ℕ) (both : List ℕ) → 1 < h → a ≡ (h - 2) * m → k ≡ m + m
+      → both ≡ paired high (drop m (mid_of a k stack)) (take m (mid_of a k stack)) ++ drop m (mid_of a k stack)
+      → some (rows_in m (h - 1) (take a stack ++ (both ++ drop k (drop a stack)))) ≡ joined (λ under last. paired high last under) (rows_in m h stack)
+  joined_last high a k both more place ek e =
+      let mid = mid_of a k stack in
+      joined_rows high a _ more place
+      (ap (λ (l : List ℕ). take a stack ++ (l ++ drop k (drop a stack))) e
+      ∙ paired_in high a m k stack (paired high (drop m mid) (take m mid)) (take m mid) (drop m mid) ek (two_rows more a place) refl refl refl)

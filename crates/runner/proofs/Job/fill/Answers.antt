@@ -3,7 +3,7 @@ use Rattle.theory.specs.Lists.{tab}
 use Rattle.theory.proofs.Fills.{fill_none, fill_all}
 use Rattle.runner.specs.Private.{made_between, values_between}
 use Rattle.runner.proofs.Pieces.{filled_piece}
-use Rattle.runner.proofs.fill.Goals as goal
+use Rattle.runner.proofs.Job.fill.Goals as goal
 
 pub loop-at-init : goal.loop-at-init
 loop-at-init c = fill_none _ _
@@ -16,6 +16,6 @@ loop-at-preserved c =
 pub returns : goal.returns
 unfolding values_between
 returns c =
-    let a = c.args in
+    let s = c.args.self.now in
     fill_all c.loop-at.invariant (omega arith)
-    ∙ ap (λ (n : ℕ). tab n (λ x. made_between a.left a.right a.recipe.now a.scan.now (pos x))) c.requires.1
+    ∙ ap (λ (n : ℕ). tab n (λ x. made_between s.beyond.left s.beyond.right s.recipe.now s.scan.now (pos x))) c.requires
