@@ -19,14 +19,9 @@ use Rattle.refusals.proofs.Checks.{refuse_no, and_then_fine}
 use Rattle.files.specs.declared.Family.{Family}
 use Rattle.files.specs.Bytes.{word_at, words_from}
 use Rattle.files.specs.Layout.{counts_family, samples_back, terms_back, term_count, terms_distance, points_at_terms, file_terms}
-use Rattle.files.specs.Private.{Usable}
 use Rattle.files.specs.Layout.{file_length, sized, marked, points_at_samples, sample_count, file_samples}
 use Rattle.files.specs.Files.{layout_checked}
 use Rattle.files.specs.Causes.{Laid}
-
-pub counts_usable : Usable counts_family
-unfolding file_length terms_distance
-counts_usable = record { wide = omega arith; low = omega arith }
 
 -- a file of no more samples and terms than allowed is no longer than the longest
 pub length_most : (family : Family) (samples terms : ℕ) → samples ≤ family.most → terms ≤ most_terms
@@ -70,11 +65,6 @@ module _ (family : Family) (f : List ℕ) where
         le-leb _ _ l.in_order,
         eq-eqb _ _ l.whole_samples,
       )
-
-  -- a file that is long enough for its trailer
-  pub sized_long : sized family f ≡ true → trailer_bytes ≤ length f
-  unfolding sized
-  sized_long e = leb-true _ _ (and_left _ _ e)
 
 -- a file of counts that is longer than the longest
 pub too_long : (f : List ℕ) → longest_file < length f → sized counts_family f ≡ false

@@ -6,6 +6,7 @@ pub mod Fronts
 pub mod Stores
 pub mod Accepts
 pub mod Held
+pub mod Numbers
 pub mod Words
 pub mod Contents
 pub mod RoundTrips

@@ -16,7 +16,8 @@ use Rattle.files.specs.Layout.{counts_family, term_count, file_terms, sample_cou
 use Rattle.files.specs.declared.Sizes.{Sizes}
 use Rattle.files.specs.Files.{sizes, layout_checked, file_checked, write_checked, Read, Write}
 use Rattle.files.specs.Causes.{Bytes}
-use Rattle.files.proofs.Layouts.{counts_usable, well_laid, whole, samples_counted, terms_counted}
+use Rattle.files.specs.Private.{counts_usable}
+use Rattle.files.proofs.Layouts.{well_laid, whole, samples_counted, terms_counted}
 use Rattle.files.proofs.Stores.{length-in_words}
 use Rattle.files.proofs.Accepts.{fine_file, file_fine, Readable, Writable, read_fine, fine_write, write_fine}
 use Rattle.files.proofs.Held.{held}

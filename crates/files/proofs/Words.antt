@@ -52,7 +52,7 @@ words_back p xs q =
 
 -- ---- bytes that are read are written as themselves
 
-in-words-append : (xs ys : List ℕ) → in_words (xs ++ ys) ≡ in_words xs ++ in_words ys
+pub in-words-append : (xs ys : List ℕ) → in_words (xs ++ ys) ≡ in_words xs ++ in_words ys
 unfolding in_words
 in-words-append [] ys = refl
 in-words-append (x ∷ xs) ys = rw (in-words-append xs ys) (sym (append_assoc (two_bytes x) (in_words xs) (in_words ys)))

@@ -5,20 +5,19 @@
 
 #![tactic(auto)]
 
-ghost use Rattle.std.specs.Prelude.{◌≡◌, ◌++◌, ◌+◌, ◌-◌, ◌*◌, ◌^◌, ◌<◌, ◌≤◌, length, drop};
-ghost use Rattle.std.proofs.lemmas.List.Edits.{sets};
+ghost use Rattle.std.specs.Prelude.{◌≡◌, ◌++◌, ◌+◌, ◌*◌, ◌^◌, ◌<◌, ◌≤◌, ◌-◌, ◌%◌, ◌&&◌, eqb, leb, length, take, drop, Ok, Err, IfOk, IfErr, MatchOption};
 ghost use Rattle.limits.specs.Limits.{word_bytes, width, most_samples, most_terms, trailer_bytes};
 ghost use Rattle.refusals.specs.Refusals.{and_then};
 ghost use Rattle.refusals.specs.Shared.{scan_checked};
 ghost use Rattle.forms.specs.Check.{form_checked};
-ghost use Rattle.files.specs.Bytes.{two_bytes, four_bytes, in_words, word_at, long_at, words_from};
-ghost use Rattle.files.specs.Layout.{counts_family, terms_back, term_count, terms_distance, points_at_terms, file_terms};
-ghost use Rattle.files.specs.Private.{Usable};
-ghost use Rattle.files.specs.Layout.{file_length, sized, points_at_samples, sample_count, trailer, counts_file};
-ghost use Rattle.files.specs.Files.{layout_checked, file_checked, read_checked, write_checked, Read, Write};
+ghost use Rattle.files.specs.Bytes.{in_words};
+ghost use Rattle.files.specs.Layout.{counts_family, terms_distance, file_length, sample_count, term_count, file_samples, file_terms, trailer, counts_file};
+ghost use Rattle.files.specs.Files.{layout_checked, slices_checked, read_checked, write_checked, Read, Write};
+ghost use Rattle.files.specs.Private.{Usable, counts_usable, trailer_of, stored, numbers};
 
 use limits::{MOST_SAMPLES, MOST_TERMS, PATTERNS, TRAILER, WIDTH, WORD_BYTES};
 use refusals::Refusal;
+use std::marker::PhantomData;
 
 // How many samples and terms a file has.
 #[derive(Clone, Copy)]
@@ -35,59 +34,55 @@ pub struct Family {
     pub most: usize,
 }
 
+// A kind of scan, by the family of its files.
+trait Kind {
+    ghost use Rattle.files.specs.declared.Family.{Family};
+
+    ghost FAMILY: { Family };
+
+    const FAMILY: Family;
+
+    ghost usable: { Usable FAMILY };
+}
+
 // Scans of counts: two bytes a sample, and the mark 53 46 hex, low byte first.
-const COUNTS: Family = Family {
-    bytes: WORD_BYTES,
-    mark: 0x4653,
-    most: MOST_SAMPLES,
-};
+struct OfCounts;
+
+impl Kind for OfCounts {
+    ghost FAMILY = { counts_family };
+
+    const FAMILY: Family = Family {
+        bytes: WORD_BYTES,
+        mark: 0x4653,
+        most: MOST_SAMPLES,
+    };
+
+    ghost usable = { counts_usable };
+}
 
 // ---- the trailer
 
-// How far from the file's end the trailer's fields begin: the sample distance, the term distance, the number of terms, the mark.
+// How far from the file's end the trailer's fields begin: the sample distance, the term distance, and the mark.
 const SAMPLES_FIELD: usize = TRAILER;
 
-const TERMS_FIELD: usize = TRAILER - 2 * WORD_BYTES;
-
-const COUNT_FIELD: usize = 2 * WORD_BYTES;
+const TERMS_FIELD: usize = TRAILER - LONG_BYTES;
 
 const MARK_FIELD: usize = WORD_BYTES;
 
-// The number that two bytes are, low byte first.
-fn word_at(file: &[u8], at: usize) -> u16
-    requires { at + 1 < length file.now }
-    ensures { result ≡ word_at file.now at }
-{
-    bits::word(file[at], file[at + 1])
-}
+// A distance in the trailer takes so many bytes.
+const LONG_BYTES: usize = 2 * WORD_BYTES;
 
-// The number that four bytes are, low byte first.
-fn long_at(file: &[u8], at: usize) -> usize
-    requires { at + 3 < length file.now }
-    ensures { result ≡ long_at file.now at }
-{
-    (word_at(file, at) as usize) + 65536 * (word_at(file, at + WORD_BYTES) as usize)
+// What a file's last bytes say: the distances from its end to the first sample and to the first term, the number of terms, and the mark.
+#[derive(Clone, Copy)]
+struct Trailer {
+    to_samples: u32,
+    to_terms: u32,
+    terms: u16,
+    mark: u16,
 }
-
-// The distance from the file's end to the first term.
-fn terms_back(file: &[u8]) -> usize
-    requires { trailer_bytes ≤ length file.now }
-    ensures { result ≡ terms_back file.now }
-{
-    long_at(file, file.len() - TERMS_FIELD)
-}
-
-// The number of terms: up to 65,535, so that it is not multiplied in 16 bits.
-fn count_terms(file: &[u8]) -> usize
-    requires { trailer_bytes ≤ length file.now }
-    ensures { (result ≡ term_count file.now) × (result < 65536) }
-{
-    word_at(file, file.len() - COUNT_FIELD) as usize
-}
-
-// ---- the layout
 
 // The distance from a file's end to the first of so many terms.
+#[tactic(auto, unfolding(crate::specs::Layout::terms_distance))]
 fn terms_distance(terms: usize) -> usize
     requires { terms_distance terms < 2 ^ 32 }
     ensures { result ≡ terms_distance terms }
@@ -96,86 +91,194 @@ fn terms_distance(terms: usize) -> usize
 }
 
 // The length of a file of so many samples and terms.
-fn file_length(family: Family, samples: usize, terms: usize) -> usize
-    requires { file_length family samples terms < 2 ^ 32 }
-    ensures { result ≡ file_length family samples terms }
+#[tactic(auto, unfolding(crate::specs::Layout::file_length, crate::specs::Layout::terms_distance))]
+fn file_length<K: Kind>(samples: usize, terms: usize) -> usize
+    requires { file_length K.FAMILY samples terms < 2 ^ 32 }
+    ensures { result ≡ file_length K.FAMILY samples terms }
 {
-    family.bytes * samples + terms_distance(terms)
+    K::FAMILY.bytes * samples + terms_distance(terms)
 }
 
-// Whether the file is as long as one of the family can be.
-fn is_sized(family: Family, file: &[u8]) -> bool
-    requires { Usable family }
-    ensures { result ≡ sized family file.now }
-{
-    let longest = file_length(family, family.most, MOST_TERMS);
-    (TRAILER <= file.len()) & (file.len() <= longest)
-}
-
-// Whether the term distance is that of the number of terms.
-fn points_at_terms(file: &[u8]) -> bool
-    requires { trailer_bytes ≤ length file.now }
-    ensures { result ≡ points_at_terms file.now }
-{
-    terms_back(file) == terms_distance(count_terms(file))
-}
-
-// Whether the sample distance is the whole file, and leaves whole samples before the terms.
-fn points_at_samples(family: Family, file: &[u8]) -> bool
-    requires usable { Usable family }
-    requires has_trailer { trailer_bytes ≤ length file.now }
-    ensures { result ≡ points_at_samples family file.now }
-{
-    let to_samples = long_at(file, file.len() - SAMPLES_FIELD);
-    let to_terms = terms_back(file);
-    if to_samples < to_terms {
-        return false;
+impl Trailer {
+    // The trailer of a file; none where the file is shorter than one.
+    fn read(file: &[u8]) -> Option<Trailer>
+        ensures { MatchOption result (length file.now < trailer_bytes)
+            (λ t. (trailer_bytes ≤ length file.now) × (t ≡ trailer_of file.now)) }
+    {
+        let t = file.last_chunk::<TRAILER>()?;
+        Some(Trailer {
+            to_samples: u32::from_le_bytes([t[0], t[1], t[2], t[3]]),
+            to_terms: u32::from_le_bytes([t[4], t[5], t[6], t[7]]),
+            terms: u16::from_le_bytes([t[8], t[9]]),
+            mark: u16::from_le_bytes([t[10], t[11]]),
+        })
     }
-    (to_samples == file.len()) & ((to_samples - to_terms) % family.bytes == 0)
+
+    // The trailer of a file of so many samples and terms.
+    #[tactic(auto, unfolding(crate::specs::Layout::trailer, crate::specs::Layout::terms_distance))]
+    fn new<K: Kind>(samples: usize, terms: usize) -> Trailer
+        requires { (terms ≤ most_terms) × (file_length K.FAMILY samples terms < 2 ^ 32) }
+        ensures { stored result ≡ trailer K.FAMILY samples terms }
+    {
+        Trailer {
+            to_samples: file_length::<K>(samples, terms) as u32,
+            to_terms: terms_distance(terms) as u32,
+            terms: terms as u16,
+            mark: K::FAMILY.mark,
+        }
+    }
+
+    // Puts the trailer, each number low byte first.
+    fn write(self, out: &mut [u8])
+        requires { length out.old ≡ trailer_bytes }
+        ensures { out.new ≡ stored self }
+    {
+        let (distances, words) = out.split_at_mut(2 * LONG_BYTES);
+        let (to_samples, to_terms) = distances.split_at_mut(LONG_BYTES);
+        let (terms, mark) = words.split_at_mut(WORD_BYTES);
+        to_samples.copy_from_slice(&self.to_samples.to_le_bytes());
+        to_terms.copy_from_slice(&self.to_terms.to_le_bytes());
+        terms.copy_from_slice(&self.terms.to_le_bytes());
+        mark.copy_from_slice(&self.mark.to_le_bytes());
+    }
+
+    // Whether the term distance is that of the number of terms.
+    #[tactic(auto, unfolding(crate::specs::Layout::terms_distance))]
+    fn points_at_terms(self) -> bool
+        ensures { result ≡ eqb self.to_terms (terms_distance self.terms) }
+    {
+        self.to_terms as usize == terms_distance(self.terms as usize)
+    }
+
+    // Whether the sample distance is the whole file, and leaves whole samples before the terms.
+    fn points_at_samples<K: Kind>(self, length: usize) -> bool
+        ensures { result ≡ (eqb self.to_samples length && leb self.to_terms self.to_samples
+            && eqb ((self.to_samples - self.to_terms) % K.FAMILY.bytes) 0) }
+    {
+        let (samples, terms) = (self.to_samples as usize, self.to_terms as usize);
+        samples == length && terms <= samples && (samples - terms) % K::FAMILY.bytes == 0
+    }
 }
+
+// ---- the layout
 
 // Refusals 15 to 18 of the layout: the length, then the mark, the term distance and the sample distance, each at the field's first
-// byte.
-#[tactic(auto, unfolding(crate::specs::Files::layout_checked, crate::specs::Layout::marked), using(crate::proofs::Layouts::sized_long))]
-fn check_layout(family: Family, file: &[u8]) -> Result<(), Refusal>
-    requires { Usable family }
-    ensures { result ≡ layout_checked family file.now }
+// byte. Answers the trailer of a file that is laid out well.
+#[tactic(auto, unfolding(crate::specs::Files::layout_checked, crate::specs::Layout::sized, crate::specs::Layout::marked, crate::specs::Layout::points_at_terms, crate::specs::Layout::points_at_samples))]
+fn check_layout<K: Kind>(file: &[u8]) -> Result<Trailer, Refusal>
+    ensures { result ≡ and_then (layout_checked K.FAMILY file.now) (Ok (trailer_of file.now)) }
 {
     let end = file.len();
-    if !is_sized(family, file) {
+    let longest = file_length::<K>(K::FAMILY.most, MOST_TERMS);
+    let Some(trailer) = Trailer::read(file) else {
+        return Err(Refusal::FileLength(end));
+    };
+    if end > longest {
         return Err(Refusal::FileLength(end));
     }
-    if word_at(file, end - MARK_FIELD) != family.mark {
+    if trailer.mark != K::FAMILY.mark {
         return Err(Refusal::Mark(end - MARK_FIELD));
     }
-    if !points_at_terms(file) {
+    if !trailer.points_at_terms() {
         return Err(Refusal::TermDistance(end - TERMS_FIELD));
     }
-    if !points_at_samples(family, file) {
+    if !trailer.points_at_samples::<K>(end) {
         return Err(Refusal::SampleDistance(end - SAMPLES_FIELD));
     }
-    Ok(())
+    Ok(trailer)
 }
 
-// The number of samples of a file that is laid out well.
-fn count_samples(family: Family, file: &[u8]) -> usize
-    requires usable { Usable family }
-    requires laid_out { layout_checked family file.now ≡ Ok tt }
-    ensures { result ≡ sample_count family file.now }
-{
-    (file.len() - terms_back(file)) / family.bytes
+// A file that is laid out well, with its trailer.
+#[derive(Drop)]
+struct ScanFile<'a, K: Kind> {
+    bytes: &'a [u8],
+    trailer: Trailer,
+    kind: PhantomData<K>,
+    ghost laid_out: { layout_checked K.FAMILY bytes.now ≡ Ok tt },
+    ghost said: { trailer ≡ trailer_of bytes.now },
+}
+
+impl<'a, K: Kind> ScanFile<'a, K> {
+    // The file, where it is laid out well.
+    fn open(bytes: &'a [u8]) -> Result<ScanFile<'a, K>, Refusal>
+        ensures opened { IfOk result (λ file. file.bytes.now ≡ bytes.now) }
+        ensures refused { IfErr result (λ refusal. layout_checked K.FAMILY bytes.now ≡ Err refusal) }
+    {
+        let trailer = check_layout::<K>(bytes)?;
+        Ok(ScanFile {
+            bytes,
+            trailer,
+            kind: PhantomData,
+        })
+    }
+
+    // Where its samples end and its terms begin.
+    fn first_term(&self) -> usize
+        ensures { result ≡ K.FAMILY.bytes * sample_count K.FAMILY self.now.bytes.now }
+    {
+        self.bytes.len() - self.trailer.to_terms as usize
+    }
+
+    // The bytes of its samples, and those of its terms.
+    fn parts(&self) -> (&'a [u8], &'a [u8])
+        ensures samples { result.0.now ≡ take (K.FAMILY.bytes * sample_count K.FAMILY self.now.bytes.now) self.now.bytes.now }
+        ensures terms { result.1.now ≡ take (word_bytes * term_count self.now.bytes.now)
+            (drop (K.FAMILY.bytes * sample_count K.FAMILY self.now.bytes.now) self.now.bytes.now) }
+        ensures whole { K.FAMILY.bytes * sample_count K.FAMILY self.now.bytes.now + word_bytes * term_count self.now.bytes.now
+            ≤ length self.now.bytes.now }
+    {
+        let (samples, behind) = self.bytes.split_at(self.first_term());
+        let (terms, _) = behind.split_at(WORD_BYTES * self.trailer.terms as usize);
+        (samples, terms)
+    }
+
+    // The number of its samples.
+    fn count_samples(&self) -> usize
+        ensures { result ≡ sample_count K.FAMILY self.now.bytes.now }
+    {
+        self.first_term() / K::FAMILY.bytes
+    }
+
+    // Its terms.
+    fn terms(&self) -> &'a [[u8; WORD_BYTES]]
+        ensures { (numbers result.now ≡ file_terms self.now.bytes.now) × (length result.now ≡ term_count self.now.bytes.now) }
+    {
+        let (_, terms) = self.parts();
+        terms.as_chunks::<WORD_BYTES>().0
+    }
+
+    // Refusals 7 and 8, then 9, of what it holds: its terms are judged where they lie, then its samples are counted.
+    fn check_contents(&self) -> Result<(), Refusal>
+        ensures { result ≡ and_then (form_checked width (file_terms self.now.bytes.now))
+            (scan_checked K.FAMILY.most (sample_count K.FAMILY self.now.bytes.now)) }
+    {
+        check_form(self.terms())?;
+        refusals::check_scan(K::FAMILY.most, self.count_samples())
+    }
+
+    // Refusals 6, then 10, with so many elements lent for its samples and its terms.
+    #[tactic(auto, unfolding(crate::specs::Files::slices_checked))]
+    fn check_slices(&self, samples_lent: usize, terms_lent: usize) -> Result<(), Refusal>
+        ensures { result ≡ slices_checked K.FAMILY self.now.bytes.now samples_lent terms_lent }
+    {
+        refusals::check_room(self.terms().len(), terms_lent)?;
+        let samples = self.count_samples();
+        if samples_lent < samples {
+            return Err(Refusal::OutputLength(samples));
+        }
+        Ok(())
+    }
 }
 
 // ---- reading
 
-// Copies n words of the file, from a place on, to the start of out.
-fn copy_words(file: &[u8], at: usize, n: usize, out: &mut [u16])
-    requires fits_file { at + word_bytes * n ≤ length file.now }
-    requires fits_slice { n ≤ length out.old }
-    ensures { out.new ≡ words_from file.now at n ++ drop n out.old }
+// Reads words to the start of out.
+fn read_words(words: &[[u8; WORD_BYTES]], out: &mut [u16])
+    requires { length words.now ≤ length out.old }
+    ensures { out.new ≡ numbers words.now ++ drop (length words.now) out.old }
 {
-    for i in 0..n {
-        out[i] = word_at(file, at + WORD_BYTES * i);
+    for (i, word) in words.iter().enumerate() {
+        out[i] = u16::from_le_bytes(*word);
     }
 }
 
@@ -183,74 +286,40 @@ fn copy_words(file: &[u8], at: usize, n: usize, out: &mut [u16])
 // a bad term.
 const ENOUGH: usize = PATTERNS + 1;
 
-// The form check on n words of the file, from a place on. Of more words than enough the front decides.
-fn check_form(file: &[u8], at: usize, n: usize) -> Result<(), Refusal>
-    requires { at + word_bytes * n ≤ length file.now }
-    ensures { result ≡ form_checked width (words_from file.now at n) }
+// The form check on words. Of more words than enough the front decides.
+fn check_form(words: &[[u8; WORD_BYTES]]) -> Result<(), Refusal>
+    ensures { result ≡ form_checked width (numbers words.now) }
 {
     let mut terms = [0u16; ENOUGH];
-    let few = n.min(ENOUGH);
-    copy_words(file, at, few, &mut terms);
+    let few = words.len().min(ENOUGH);
+    read_words(&words[..few], &mut terms);
     forms::check(WIDTH, &terms[..few])
 }
 
-// What a file that is laid out well holds: its terms are judged where they lie, then its samples are counted.
-#[tactic(auto, unfolding(crate::specs::Layout::file_terms))]
-fn check_contents(family: Family, file: &[u8]) -> Result<(), Refusal>
-    requires usable { Usable family }
-    requires laid_out { layout_checked family file.now ≡ Ok tt }
-    ensures { result ≡ and_then (form_checked width (file_terms file.now))
-        (scan_checked family.most (sample_count family file.now)) }
-{
-    let first_term = file.len() - terms_back(file);
-    check_form(file, first_term, count_terms(file))?;
-    refusals::check_scan(family.most, count_samples(family, file))
-}
-
-// What a file by itself is refused for: 15 to 18 where it is badly laid out, 7 and 8 of its terms, and 9 of its samples, in
-// this order.
-#[tactic(auto, unfolding(crate::specs::Files::file_checked))]
-fn check_file(family: Family, file: &[u8]) -> Result<(), Refusal>
-    requires { Usable family }
-    ensures { result ≡ file_checked family file.now }
-{
-    check_layout(family, file)?;
-    check_contents(family, file)
-}
-
-// What a read refuses, with so many elements lent for samples and for terms.
-#[tactic(auto, unfolding(crate::specs::Files::read_checked, crate::specs::Files::slices_checked))]
-fn admit_read(
-    family: Family,
-    file: &[u8],
-    samples_lent: usize,
-    terms_lent: usize,
-) -> Result<(), Refusal>
-    requires { Usable family }
-    ensures { result ≡ read_checked family file.now samples_lent terms_lent }
-{
-    check_file(family, file)?;
-    refusals::check_room(count_terms(file), terms_lent)?;
-    let samples = count_samples(family, file);
-    if samples_lent < samples {
-        return Err(Refusal::OutputLength(samples));
+impl<'a> ScanFile<'a, OfCounts> {
+    // Its samples.
+    fn samples(&self) -> &'a [[u8; WORD_BYTES]]
+        ensures { (numbers result.now ≡ file_samples self.now.bytes.now)
+            × (length result.now ≡ sample_count counts_family self.now.bytes.now) }
+    {
+        let (samples, _) = self.parts();
+        samples.as_chunks::<WORD_BYTES>().0
     }
-    Ok(())
-}
 
-// Copies the samples and the terms of a file of counts that can be read to slices that have room for them.
-fn fill_slices(file: &[u8], samples: &mut [u16], terms: &mut [u16]) -> Sizes
-    requires { read_checked counts_family file.now (length samples.old) (length terms.old) ≡ Ok tt }
-    ensures { Read file.now
-        samples.old samples.new terms.old terms.new (Ok result) }
-{
-    let samples_in = count_samples(COUNTS, file);
-    let terms_in = count_terms(file);
-    copy_words(file, 0, samples_in, samples);
-    copy_words(file, WORD_BYTES * samples_in, terms_in, terms);
-    Sizes {
-        samples: samples_in,
-        terms: terms_in,
+    // Reads the samples and the terms of a file that can be read to slices that have room for them.
+    fn fill(&self, samples: &mut [u16], terms: &mut [u16]) -> Sizes
+        requires { read_checked counts_family self.now.bytes.now (length samples.old) (length terms.old) ≡ Ok tt }
+        ensures { Read self.now.bytes.now
+            samples.old samples.new terms.old terms.new (Ok result) }
+    {
+        let samples_in = self.samples();
+        let terms_in = self.terms();
+        read_words(samples_in, samples);
+        read_words(terms_in, terms);
+        Sizes {
+            samples: samples_in.len(),
+            terms: terms_in.len(),
+        }
     }
 }
 
@@ -258,70 +327,39 @@ fn fill_slices(file: &[u8], samples: &mut [u16], terms: &mut [u16]) -> Sizes
 // them keep their values. Answers how many samples and terms there are. Refuses 15 for the file's length, 16 for its mark, 17
 // for its term distance, 18 for its sample distance, 7 and 8 of its terms, 9 of its samples, 6 where fewer elements are lent
 // for terms, and 10 where fewer are lent for samples, in this order; after a refusal neither slice has changed.
+#[tactic(auto, unfolding(crate::specs::Files::read_checked, crate::specs::Files::file_checked))]
 pub fn read(file: &[u8], samples: &mut [u16], terms: &mut [u16]) -> Result<Sizes, Refusal>
     ensures { Read file.now
         samples.old samples.new terms.old terms.new result }
 {
-    admit_read(COUNTS, file, samples.len(), terms.len())?;
-    Ok(fill_slices(file, samples, terms))
+    let scan_file = ScanFile::<OfCounts>::open(file)?;
+    scan_file.check_contents()?;
+    scan_file.check_slices(samples.len(), terms.len())?;
+    Ok(scan_file.fill(samples, terms))
 }
 
 // ---- writing
 
-// Puts a number as two bytes, low byte first.
-fn put_word(number: u16, at: usize, out: &mut [u8])
-    requires { at + 1 < length out.old }
-    ensures { out.new ≡ sets out.old at (two_bytes number) }
+// Puts numbers one after another, each low byte first.
+fn put_words(numbers: &[u16], out: &mut [u8])
+    requires { length out.old ≡ word_bytes * length numbers.now }
+    ensures { out.new ≡ in_words numbers.now }
 {
-    out[at] = (number % 256) as u8;
-    out[at + 1] = (number / 256) as u8;
-}
-
-// Puts a number as four bytes, low byte first.
-fn put_long(number: u32, at: usize, out: &mut [u8])
-    requires { at + 3 < length out.old }
-    ensures { out.new ≡ sets out.old at (four_bytes number) }
-{
-    put_word((number % 65536) as u16, at, out);
-    put_word((number / 65536) as u16, at + WORD_BYTES, out);
-}
-
-// Puts numbers one after another, two bytes each.
-fn put_words(numbers: &[u16], at: usize, out: &mut [u8])
-    requires { at + word_bytes * length numbers.now ≤ length out.old }
-    ensures { out.new ≡ sets out.old at (in_words numbers.now) }
-{
-    for i in 0..numbers.len() {
-        put_word(numbers[i], at + WORD_BYTES * i, out);
+    for (i, number) in numbers.iter().enumerate() {
+        let at = WORD_BYTES * i;
+        out[at..at + WORD_BYTES].copy_from_slice(&number.to_le_bytes());
     }
-}
-
-// Puts the trailer of a file of so many samples and terms: the two distances, the number of terms, and the mark.
-fn put_trailer(family: Family, samples: usize, terms: usize, out: &mut [u8])
-    requires bounded { (terms ≤ most_terms) × (file_length family samples terms < 2 ^ 32) }
-    requires has_trailer { trailer_bytes ≤ length out.old }
-    ensures { out.new
-        ≡ sets out.old (length out.old - trailer_bytes) (trailer family samples terms) }
-{
-    let end = out.len();
-    let back = file_length(family, samples, terms);
-    let distance = terms_distance(terms);
-    put_long(back as u32, end - SAMPLES_FIELD, out);
-    put_long(distance as u32, end - TERMS_FIELD, out);
-    put_word(terms as u16, end - COUNT_FIELD, out);
-    put_word(family.mark, end - MARK_FIELD, out);
 }
 
 // Refuses what a write of so many samples refuses, with so many bytes lent. The length needed is only computed of a form and a
 // scan that are allowed, so that it cannot wrap.
 #[tactic(auto, unfolding(crate::specs::Files::write_checked))]
-fn admit_write(family: Family, terms: &[u16], samples: usize, lent: usize) -> Result<(), Refusal>
-    requires { Usable family }
-    ensures { result ≡ write_checked family terms.now samples lent }
+fn admit_write<K: Kind>(terms: &[u16], samples: usize, lent: usize) -> Result<(), Refusal>
+    ensures { result ≡ write_checked K.FAMILY terms.now samples lent }
 {
     forms::check(WIDTH, terms)?;
-    refusals::check_scan(family.most, samples)?;
-    refusals::check_lent(file_length(family, samples, terms.len()), lent)
+    refusals::check_scan(K::FAMILY.most, samples)?;
+    refusals::check_lent(file_length::<K>(samples, terms.len()), lent)
 }
 
 // Puts a whole file of counts.
@@ -330,17 +368,19 @@ fn fill_file(terms: &[u16], scan: &[u16], out: &mut [u8])
     requires room { length out.old ≡ file_length counts_family (length scan.now) (length terms.now) }
     ensures { out.new ≡ counts_file terms.now scan.now }
 {
-    put_words(scan, 0, out);
-    put_words(terms, WORD_BYTES * scan.len(), out);
-    put_trailer(COUNTS, scan.len(), terms.len(), out);
+    let (samples, rest) = out.split_at_mut(WORD_BYTES * scan.len());
+    let (words, trailer) = rest.split_at_mut(WORD_BYTES * terms.len());
+    put_words(scan, samples);
+    put_words(terms, words);
+    Trailer::new::<OfCounts>(scan.len(), terms.len()).write(trailer);
 }
 
-// Writes the file of a form and a scan to out, and answers its length. Refuses, in this order, a bad term, too many terms, the number of
-// samples, and an out that is not exactly as long as the file; after a refusal out has not changed.
+// Writes the file of a form and a scan to out, and answers its length. Refuses 7 and 8 of the terms, 9 of the scan, and
+// 10 where out is not exactly as long as the file, in this order; after a refusal out has not changed.
 pub fn write(terms: &[u16], scan: &[u16], out: &mut [u8]) -> Result<usize, Refusal>
     ensures { Write terms.now scan.now out.old out.new result }
 {
-    admit_write(COUNTS, terms, scan.len(), out.len())?;
+    admit_write::<OfCounts>(terms, scan.len(), out.len())?;
     fill_file(terms, scan, out);
     Ok(out.len())
 }

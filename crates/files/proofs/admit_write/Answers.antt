@@ -7,8 +7,9 @@ use Rattle.files.proofs.Layouts.{length_most}
 use Rattle.files.proofs.admit_write.Goals as goal
 
 pub file_length-requires : goal.file_length-requires
-file_length-requires c =
-    let a = c.args in
-    let terms = a.terms.now in
-    let short = (scan_fine a.family.most a.samples (sym c.in_ok-check_scan.ensures)).1 in
-    omega (arith, c.requires.low, length_most a.family a.samples (length terms) short (fine_few width terms (sym c.in_ok-check.ensures)))
+file_length-requires g c =
+    let family = g.K.Kind.FAMILY in
+    let terms = c.args.terms.now in
+    let scan = rw c.FAMILY.ensures at c.in_ok-check_scan.ensures in
+    let short = (scan_fine family.most c.args.samples (sym scan)).1 in
+    omega (arith, g.K.Kind.usable.low, length_most family c.args.samples (length terms) short (fine_few width terms (sym c.in_ok-check.ensures)))

@@ -1,31 +1,29 @@
 -- `files::fill_file` meets its contract. Assumes nothing.
-use Rattle.std.proofs.Common.{arith, length}
+use Rattle.std.proofs.Common.{arith, length, append_assoc, sym}
 use Rattle.files.specs.Bytes.{in_words}
-use Rattle.files.specs.Layout.{counts_family, terms_distance, file_length, counts_file}
-use Rattle.files.proofs.Stores.{length-in_words, file_stored}
+use Rattle.files.specs.Layout.{counts_family, terms_distance, file_length, trailer, file_of, counts_file}
 use Rattle.files.proofs.fill_file.Goals as goal
 
-pub put_words-requires : goal.put_words-requires
+pub split_at_mut-samples-requires : goal.split_at_mut-samples-requires
 unfolding file_length terms_distance
-put_words-requires c = omega arith
+split_at_mut-samples-requires c = omega arith
 
-pub put_words-requires-2 : goal.put_words-requires-2
+pub split_at_mut-words-requires : goal.split_at_mut-words-requires
 unfolding file_length terms_distance
-put_words-requires-2 c = omega arith
+split_at_mut-words-requires c = omega arith
 
-pub put_trailer-requires-clause-has_trailer : goal.put_trailer-requires-clause-has_trailer
+pub new-requires : goal.new-requires
 unfolding file_length terms_distance
-put_trailer-requires-clause-has_trailer c = omega arith
+new-requires c = (omega arith, omega arith)
 
-pub put_trailer-requires-clause-bounded : goal.put_trailer-requires-clause-bounded
+pub write-requires : goal.write-requires
 unfolding file_length terms_distance
-put_trailer-requires-clause-bounded c = omega arith
+write-requires c = omega arith
 
 pub returns : goal.returns
-unfolding counts_file
+unfolding counts_file file_of
 returns c =
-    let terms = c.put_words-2.ensures in
-    let a = c.args in
-    let scan = a.scan.now in
-    rw (c.put_trailer.ensures, terms, c.put_words.ensures)
-    (file_stored counts_family a.out.now (in_words scan) (length scan) a.terms.now (length-in_words scan) c.requires.room)
+    let scan = in_words c.args.scan.now in
+    let terms = in_words c.args.terms.now in
+    rw (c.put_words.ensures, c.put_words-2.ensures, c.write.ensures, c.new.ensures)
+    (sym (append_assoc scan terms (trailer counts_family (length c.args.scan.now) (length c.args.terms.now))))

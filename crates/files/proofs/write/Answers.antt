@@ -3,12 +3,8 @@ use Rattle.std.proofs.Common.{sym, length}
 use Rattle.limits.specs.Limits.{width}
 use Rattle.forms.proofs.Fine.{fine_few}
 use Rattle.files.specs.Layout.{counts_family}
-use Rattle.files.proofs.Layouts.{counts_usable}
 use Rattle.files.proofs.Accepts.{fine_write}
 use Rattle.files.proofs.write.Goals as goal
-
-pub admit_write-requires : goal.admit_write-requires
-admit_write-requires c = counts_usable
 
 pub fill_file-requires-clause-bounded : goal.fill_file-requires-clause-bounded
 fill_file-requires-clause-bounded c =
