@@ -4,15 +4,17 @@
 
 #![tactic(auto)]
 
-ghost use Rattle.std.specs.Prelude.{◌≡◌, ◌&&◌, not, ◌-◌, ◌≤◌, eqb, length, get_or, pos, ◌-ℤ◌};
-ghost use Rattle.limits.specs.Limits.{most_samples, most_terms, top};
+ghost use Rattle.std.specs.Prelude.{◌≡◌, ◌&&◌, not, eqb, ◌^◌, ◌≤◌, Err, Ok, length, get_or, pos, ◌-ℤ◌};
+ghost use Rattle.limits.specs.Limits.{most_samples, most_terms};
 ghost use Rattle.theory.specs.Signals.{held, residue_at};
 ghost use Rattle.refusals.specs.declared.Refusal.TheVariants.{FileLength};
 ghost use Rattle.scans.specs.Run.{run_checked};
 ghost use Rattle.reports.specs.Counts.{kind_of, counts_of, Count};
+ghost use Rattle.reports.specs.Private.{kind_of_sign, with_residue, IsBelow};
 
 use limits::{MOST_SAMPLES, MOST_TERMS};
 use refusals::Refusal;
+use std::cmp::Ordering;
 
 // What the report prints of a file.
 #[derive(Clone, Copy)]
@@ -29,28 +31,29 @@ pub struct Counts {
     pub down: u64,
 }
 
-// How far a lies above b; 0 where it does not.
-fn excess(a: u16, b: u16) -> usize
-    ensures { (result ≡ a - b) × (result ≤ top) }
+// Whether a run starts at a residue of one sign behind one of another.
+#[tactic(auto, using(crate::proofs::Residues::sign_change, crate::proofs::Residues::signs_kinds))]
+fn starts_run(sign: Ordering, before: Ordering) -> bool
+    ensures { result ≡ (not (eqb (kind_of_sign sign) 0) && not (eqb (kind_of_sign sign) (kind_of_sign before))) }
 {
-    if b < a { (a - b) as usize } else { 0 }
+    sign.is_ne() && sign != before
 }
 
-// The kind that a spike's samples have in common, the residue's sign: 1 above 0, 2 below 0; 0 for a sample that did not change.
-fn kind(raw: u16, cleaned: u16) -> usize
-    ensures { result ≡ kind_of (pos raw -ℤ pos cleaned) }
-{
-    if raw == cleaned {
-        return 0;
+impl Counts {
+    // Takes in a sample and its cleaned value, where the residue before had a sign. Answers the sign of its own residue: a spike's samples
+    // have that in common.
+    fn add(&mut self, raw: u16, cleaned: u16, before: Ordering) -> Ordering
+        requires { IsBelow (2 ^ 63) self.old }
+        ensures sign { kind_of_sign result ≡ kind_of (pos raw -ℤ pos cleaned) }
+        ensures counts { self.new ≡ with_residue (kind_of_sign before) (pos raw -ℤ pos cleaned) self.old }
+    {
+        let sign = raw.cmp(&cleaned);
+        self.changed += u64::from(sign.is_ne());
+        self.spikes += u64::from(starts_run(sign, before));
+        self.up += u64::from(raw.saturating_sub(cleaned));
+        self.down += u64::from(cleaned.saturating_sub(raw));
+        sign
     }
-    if raw < cleaned { 2 } else { 1 }
-}
-
-// Whether a run starts at a sample of one kind behind a sample of another.
-fn starts_run(kind: usize, before: usize) -> bool
-    ensures { result ≡ (not (eqb kind 0) && not (eqb kind before)) }
-{
-    (kind != 0) & (kind != before)
 }
 
 // The counts of a scan and its cleaned values, by their residues.
@@ -59,28 +62,18 @@ fn count_residues(scan: &[u16], cleaned: &[u16]) -> Counts
     ensures { result ≡ counts_of (length scan.now)
         (λ x. pos (get_or scan.now x 0) -ℤ pos (get_or cleaned.now x 0)) }
 {
-    let mut changed: usize = 0;
-    let mut spikes: usize = 0;
-    let mut up: usize = 0;
-    let mut down: usize = 0;
-    let mut before: usize = 0;
-    for x in 0..scan.len() {
-        let raw = scan[x];
-        let value = cleaned[x];
-        let here = kind(raw, value);
-        changed += bits::bit(raw != value);
-        spikes += bits::bit(starts_run(here, before));
-        up += excess(raw, value);
-        down += excess(value, raw);
-        before = here;
-    }
-    Counts {
+    let mut counts = Counts {
         samples: scan.len() as u64,
-        changed: changed as u64,
-        spikes: spikes as u64,
-        up: up as u64,
-        down: down as u64,
+        changed: 0,
+        spikes: 0,
+        up: 0,
+        down: 0,
+    };
+    let mut before = Ordering::Equal;
+    for (x, &raw) in scan.iter().enumerate() {
+        before = counts.add(raw, cleaned[x], before);
     }
+    counts
 }
 
 // Room for any scan. The `ensures` gives only the length, which lending the array as a slice needs.

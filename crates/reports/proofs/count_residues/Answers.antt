@@ -1,10 +1,12 @@
-use Rattle.std.proofs.Common.{rules, ℕ, ◌+◌, arith, ◌≡◌, refl, sym, ap, ap₂, ◌∙◌, ◌&&◌, not, eqb, length, get_or}
+use Rattle.std.proofs.Common.{ℕ, ◌+◌, arith, ◌≡◌, refl, sym, ap, ◌∙◌, length, get_or, not, ◌&&◌, eqb}
 use Rattle.theory.specs.Lists.{bit}
-use Rattle.reports.specs.Counts.{counts_of}
+use Rattle.reports.specs.declared.Counts.{Counts}
+use Rattle.reports.specs.Counts.{is_change, counts_of, above, below}
+use Rattle.theory.proofs.Lists.{bit_lt}
 use Rattle.reports.proofs.Sums.{sum_none, sum_more}
-use Rattle.reports.proofs.Residues.{change_difference, above_difference, below_difference}
+use Rattle.reports.proofs.Residues.{above_difference, below_difference}
 use Rattle.reports.proofs.Spikes.{kind_before, starts_at, runs_by_starts, before-next}
-use Rattle.reports.proofs.count_residues.Invariants.{kinds}
+use Rattle.reports.proofs.count_residues.Invariants.{residue, kinds}
 use Rattle.reports.proofs.count_residues.Goals as goal
 
 pub loop-x-init : goal.loop-x-init
@@ -18,49 +20,55 @@ loop-x-init c = (
     few = omega arith;
     low = omega arith;
   },
-  search rules,
+  refl,
   refl,
 )
 
 pub loop-x-preserved : goal.loop-x-preserved
 unfolding starts_at
 loop-x-preserved c =
-    let here = c.kind-here.ensures in
-    let a = c.args in
-    let s = a.scan.now in
-    let t = a.cleaned.now in
+    let s = c.args.scan.now in
+    let t = c.args.cleaned.now in
     let x = c.loop-x.x in
     let sums = c.loop-x.invariant.0 in
     let raw = get_or s x 0 in
     let value = get_or t x 0 in
-    let changes = c.bit-changed.ensures.0 ∙ ap bit (sym (change_difference raw value)) in
-    let starts_here = c.starts_run.ensures ∙ ap₂ (λ (k b : ℕ). not (eqb k 0) && not (eqb k b)) here c.loop-x.invariant.2 in
-    let spikes = c.bit-spikes.ensures.0 ∙ ap bit starts_here in
-    let ups = c.excess-up.ensures.0 ∙ sym (above_difference raw value) in
-    let downs = c.excess-down.ensures.0 ∙ sym (below_difference raw value) in (
+    let more = c.add-before.ensures.counts in
+    let old = c.loop-x.counts in
+    let changes : c.add-before.new.self.changed ≡ old.changed + bit (is_change (residue s t x)) = ap (λ (k : Counts). k.changed) more in
+    let starts : c.add-before.new.self.spikes ≡ old.spikes + bit (starts_at (kinds s t) x) =
+    ap (λ (k : Counts). k.spikes) more ∙ ap (λ (k : ℕ). old.spikes + bit (not (eqb (kinds s t x) 0) && not (eqb (kinds s t x) k))) c.loop-x.invariant.2 in
+    let ups : c.add-before.new.self.up ≡ old.up + above (residue s t x) = ap (λ (k : Counts). k.up) more in
+    let downs : c.add-before.new.self.down ≡ old.down + below (residue s t x) = ap (λ (k : Counts). k.down) more in
+    let high = above_difference raw value in
+    let low = below_difference raw value in
+    let change = bit_lt (is_change (residue s t x)) in
+    let start = bit_lt (starts_at (kinds s t) x) in
+    let fits = c.type_inv.scan x in (
       record {
-        changed_is = ap₂ ◌+◌ sums.changed_is changes ∙ sym (sum_more _ x);
-        spikes_is = ap₂ ◌+◌ sums.spikes_is spikes ∙ sym (sum_more _ x);
-        up_is = ap₂ ◌+◌ sums.up_is ups ∙ sym (sum_more _ x);
-        down_is = ap₂ ◌+◌ sums.down_is downs ∙ sym (sum_more _ x);
-        few = omega arith;
-        low = omega arith;
+        changed_is = changes ∙ ap (λ (k : ℕ). k + bit (is_change (residue s t x))) sums.changed_is ∙ sym (sum_more _ x);
+        spikes_is = starts ∙ ap (λ (k : ℕ). k + bit (starts_at (kinds s t) x)) sums.spikes_is ∙ sym (sum_more _ x);
+        up_is = ups ∙ ap (λ (k : ℕ). k + above (residue s t x)) sums.up_is ∙ sym (sum_more _ x);
+        down_is = downs ∙ ap (λ (k : ℕ). k + below (residue s t x)) sums.down_is ∙ sym (sum_more _ x);
+        few = (omega (arith, changes, change, sums.few), omega (arith, starts, start, sums.few));
+        low = (omega (arith, ups, high, sums.low), omega (arith, downs, low, sums.low));
       },
-      omega arith,
-      here ∙ sym (before-next (kinds s t) x),
+      ap (λ (k : Counts). k.samples) more ∙ c.loop-x.invariant.1,
+      c.add-before.ensures.sign ∙ sym (before-next (kinds s t) x),
     )
 
 pub returns : goal.returns
 unfolding counts_of
 returns c =
-    let a = c.args in
-    let s = a.scan.now in
-    let t = a.cleaned.now in
+    let s = c.args.scan.now in
+    let t = c.args.cleaned.now in
     let sums = c.loop-x.invariant.0 in
-    let done : c.loop-x.x ≡ length s = omega arith in
-    let spikes = sums.spikes_is ∙ sym (runs_by_starts (kinds s t) c.loop-x.x) in
+    let n = c.loop-x.x in
+    let done : n ≡ length s = omega arith in
+    let spikes = sums.spikes_is ∙ sym (runs_by_starts (kinds s t) n) in
+    let samples : c.loop-x.counts.samples ≡ n = omega arith in
     rw (← done) (λ i. record {
-      samples = c.loop-x.x;
+      samples = samples i;
       changed = sums.changed_is i;
       spikes = spikes i;
       up = sums.up_is i;
