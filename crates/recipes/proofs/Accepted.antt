@@ -23,15 +23,14 @@ use Rattle.theory.proofs.Truth.{Fits}
 use Rattle.refusals.specs.declared.Refusal.{Refusal}
 use Rattle.recipes.specs.declared.Step.{Step}
 use Rattle.recipes.specs.declared.Step.TheVariants.{Signal, Erode, Dilate, Open, Close, Rank, Median, Larger, Smaller}
-use Rattle.recipes.specs.declared.Reach.{Reach}
 use Rattle.recipes.specs.Steps.{step_at}
-use Rattle.recipes.specs.Machine.{added, replaced, joined, act, reaches}
+use Rattle.recipes.specs.Machine.{Reach, added, replaced, joined, act, reaches}
 use Rattle.recipes.specs.Judge.{in_reach, onward, stepped, judged_from, bad_length, recipe_checked}
-use Rattle.recipes.specs.Private.{is_near, judged}
+use Rattle.recipes.specs.Private.{judged}
 use Rattle.recipes.specs.Meaning.{done, run, made}
 use Rattle.recipes.proofs.Decodes.{Sane, step_sane}
 use Rattle.recipes.proofs.Plans.{plans, fold, folds, plan_of, act-fold}
-use Rattle.recipes.proofs.Reaches.{in_near, fold-reaches}
+use Rattle.recipes.proofs.Reaches.{is_near, in_near, fold-reaches}
 
 -- what is refused is not fine
 never : {X : Type 0} {why : Refusal} → ◌≡◌ {A = Checked} (Err why) (Ok tt) → X

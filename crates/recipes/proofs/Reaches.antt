@@ -1,36 +1,36 @@
 -- The machine on reaches: a plan's reach is that of the offsets that it reads, and each step leaves the reach of document 01's column.
 -- Assumes nothing.
 use mathlib.Core.Path.{◌≡◌, refl, sym, ap, ap₂, ◌∙◌}
-use mathlib.Core.Bool.{true, and-true}
+use mathlib.Core.Bool.{Bool, true, false, not, cond, ◌&&◌, and-true}
 use mathlib.Core.List.{List, ◌∷◌}
 use mathlib.Core.Option.{Option, some}
-use Prim.Native.Nat.{ℕ, zero, suc, ◌-◌, ◌≤◌, ◌<◌}
+use Prim.Native.Nat.{ℕ, zero, suc, ◌-◌, ◌*◌, ◌≤◌, ◌<◌}
 use native.Mathlib.Omega.{arith}
-use lib.Dec.{leb, leb-suc-suc}
+use lib.Dec.{ltb, leb, leb-suc-suc}
 use lib.IntN.{ℤ, pos, negsuc, neg_ℤ, nat_abs, ◌+ℤ◌, ◌-ℤ◌, +ℤ_assoc, +ℤ_comm, neg_ℤ-+ℤ, neg_ℤ-neg_ℤ}
 use lib.ListN.{length}
-use lib.Signed.{le_z, mag}
-use borrow.Author.Tests.{leb-true, lt-ltb}
+use lib.Signed.{lt_z, le_z, mag}
+use borrow.Author.Tests.{leb-true, leb-false, lt-ltb, le-ltb}
 use Rattle.limits.specs.Limits.{reach, most_signals}
 use Rattle.theory.specs.Signals.{window, offsets}
 use Rattle.theory.proofs.Plans.{Plan, scan, near, larger_plan, smaller_plan, lo, hi}
-use Rattle.theory.proofs.Tests.{and_left, and_right}
+use Rattle.theory.proofs.Tests.{which, and_left, and_right}
+use mathlib.Core.Logic.{◌⊎◌, inl, inr}
+use Rattle.std.specs.Int.{int_min, int_max}
+use Rattle.theory.specs.Orders.{smaller, larger}
+use Rattle.std.proofs.Common.{w32, to_z, of_z}
+use Rattle.theory.proofs.Signs.{mag_neg, mag_diff, signed_bound, read_back}
 use Rattle.theory.proofs.Offsets.{leftmost_neg, rightmost_neg}
-use Rattle.recipes.specs.declared.Reach.{Reach}
 use Rattle.recipes.specs.declared.Step.{Step}
 use Rattle.recipes.specs.declared.Step.TheVariants.{Signal, Erode, Dilate, Open, Close, Rank, Median, Larger, Smaller}
-use Rattle.recipes.specs.Machine.{added, replaced, joined, eroded, dilated, ranked_by, act, reaches, both_reach}
+use Rattle.recipes.specs.Machine.{Reach, added, replaced, joined, eroded, dilated, ranked_by, act, reaches, both_reach}
 use Rattle.recipes.specs.Judge.{in_reach}
-use Rattle.recipes.specs.Private.{is_near, Little, min_of, max_of, moved, eroded_reach, dilated_reach, opened_reach, taken, reach_left}
+use Rattle.recipes.specs.Private.{min_of, max_of, eroded_reach, dilated_reach, opened_reach, taken, reach_left}
 use Rattle.recipes.proofs.Plans.{fold}
 
 -- two reaches with the same ends
 pub reach_by : {l l' h h' : ℤ} → l ≡ l' → h ≡ h' → ◌≡◌ {A = Reach} (record { lo = l; hi = h }) (record { lo = l'; hi = h' })
 reach_by p q = ap₂ {C = Reach} (λ l h. record { lo = l; hi = h }) p q
-
--- two moves of the ends that are the same
-pub moved_by : (r : Reach) {a a' b b' : ℤ} → a ≡ a' → b ≡ b' → moved a b r ≡ moved a' b' r
-moved_by r p q = reach_by (ap (λ (z : ℤ). r.lo +ℤ z) p) (ap (λ (z : ℤ). r.hi +ℤ z) q)
 
 -- ---- of a plan: the least and the greatest offset that it reads
 
@@ -104,7 +104,11 @@ reach_table Smaller q r st l = refl
 
 -- ---- the ends of a reach
 
--- -4 to 4, by either test
+-- -4 to 4
+unfoldable pub is_near : ℤ → Bool
+is_near z = le_z (neg_ℤ (pos reach)) z && le_z z (pos reach)
+
+-- by either test
 pub near_by : (z : ℤ) → is_near z ≡ leb (nat_abs z) reach
 unfolding is_near
 near_by (pos n) = refl
@@ -114,10 +118,52 @@ pub in_near : (r : Reach) → in_reach r ≡ true → (is_near r.lo ≡ true) ×
 unfolding in_reach
 in_near r h = (near_by r.lo ∙ and_left _ _ h, near_by r.hi ∙ and_right (leb (nat_abs r.lo) reach) _ h)
 
-near_little : (z : ℤ) → is_near z ≡ true → mag z ≤ reach
-unfolding is_near
-near_little (pos n) h = leb-true n reach (and_right (le_z (neg_ℤ (pos reach)) (pos n)) _ h)
-near_little (negsuc n) h = omega (arith, leb-true n (reach - 1) (and_left _ _ h))
+-- ---- ends read back: what is small is as it is
 
-pub in_little : (r : Reach) → in_reach r ≡ true → Little r
-in_little r h = let near = in_near r h in (near_little r.lo near.0, near_little r.hi near.1)
+read_small : (z : ℤ) → mag z ≤ 6 * reach → to_z w32 (of_z w32 z) ≡ z
+read_small z h = read_back z (omega arith)
+
+mag_abs : (z : ℤ) → mag z ≤ nat_abs z
+mag_abs (pos n) = omega arith
+mag_abs (negsuc n) = omega arith
+
+module _ (z d : ℤ) {v : ℤ} (little : nat_abs z ≤ reach) (h : mag d ≤ 3 * reach) (is : d ≡ v) where
+  pub read_sum : to_z w32 (of_z w32 (to_z w32 (of_z w32 z) +ℤ to_z w32 (of_z w32 d))) ≡ z +ℤ v
+  read_sum =
+      let sum : mag (z +ℤ d) ≤ 6 * reach = omega (arith, mag_abs z, mag_neg d, rw (neg_ℤ-neg_ℤ d) at (mag_diff z (neg_ℤ d))) in
+      rw (read_small z (omega (arith, mag_abs z)), read_small d (omega arith), read_small (z +ℤ d) sum, is)
+
+  pub read_difference : to_z w32 (of_z w32 (to_z w32 (of_z w32 z) -ℤ to_z w32 (of_z w32 d))) ≡ z -ℤ v
+  read_difference =
+      let difference : mag (z -ℤ d) ≤ 6 * reach = omega (arith, mag_abs z, mag_diff z d) in
+      rw (read_small z (omega (arith, mag_abs z)), read_small d (omega arith), read_small (z -ℤ d) difference, is)
+
+pub read_little : (z : ℤ) → nat_abs z ≤ reach → to_z w32 (of_z w32 z) ≡ z
+read_little z h = read_small z (omega (arith, mag_abs z))
+
+-- std's words for the smaller and the larger are the order's
+flipped : (a b : ℕ) → ltb b a ≡ not (leb a b)
+flipped a b = go (which (leb a b))
+  where
+    go : (leb a b ≡ true) ⊎ (leb a b ≡ false) → ltb b a ≡ not (leb a b)
+    go (inl t) = rw (t, le-ltb b a (leb-true a b t))
+    go (inr f) = rw (f, lt-ltb b a (leb-false a b f))
+
+lt_flipped : (y z : ℤ) → lt_z z y ≡ not (le_z y z)
+lt_flipped (pos a) (pos b) = flipped a b
+lt_flipped (pos a) (negsuc b) = refl
+lt_flipped (negsuc a) (pos b) = refl
+lt_flipped (negsuc a) (negsuc b) = flipped b a
+
+turned : {A : Type 0} (b : Bool) (x y : A) → cond (not b) y x ≡ cond b x y
+turned true x y = refl
+turned false x y = refl
+
+module _ (y z : ℤ) (h : nat_abs y ≤ reach) (k : nat_abs z ≤ reach) (v : ℤ) (fits : mag v < signed_bound) where
+  pub read_min : v ≡ int_min (to_z w32 (of_z w32 y)) (to_z w32 (of_z w32 z)) → to_z w32 (of_z w32 v) ≡ smaller le_z y z
+  unfolding smaller
+  read_min e = read_back v fits ∙ e ∙ rw (read_little y h, read_little z k, lt_flipped y z) (turned (le_z y z) y z)
+
+  pub read_max : v ≡ int_max (to_z w32 (of_z w32 y)) (to_z w32 (of_z w32 z)) → to_z w32 (of_z w32 v) ≡ larger le_z y z
+  unfolding larger
+  read_max e = read_back v fits ∙ e ∙ rw (read_little y h, read_little z k, lt_flipped y z) (turned (le_z y z) z y)

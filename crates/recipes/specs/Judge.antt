@@ -8,9 +8,8 @@ use Rattle.std.specs.Prelude.{ℕ, zero, suc, ◌+◌, ◌*◌, ◌/◌, ◌%◌
 use Rattle.std.proofs.Math.Option.{Option, none, some}
 use Rattle.limits.specs.Limits.{reach, step_bytes, most_steps}
 use Rattle.refusals.specs.Refusals.{refuse_if, and_then}
-use Rattle.recipes.specs.declared.Reach.{Reach}
 use Rattle.recipes.specs.Steps.{step_at}
-use Rattle.recipes.specs.Machine.{act, reaches}
+use Rattle.recipes.specs.Machine.{Reach, act, reaches}
 
 -- a reach lies in -4 to 4: both its ends do
 unfoldable pub in_reach : Reach → Bool

@@ -9,7 +9,6 @@ use Rattle.theory.specs.Ranks.{Pick, the_smallest, the_largest, the_kth, pick}
 use Rattle.theory.specs.Signals.{window, offsets, size, leftmost, rightmost}
 use Rattle.recipes.specs.declared.Step.{Step}
 use Rattle.recipes.specs.declared.Step.TheVariants.{Signal, Erode, Dilate, Open, Close, Rank, Median, Larger, Smaller}
-use Rattle.recipes.specs.declared.Reach.{Reach}
 
 -- what a kind of signals has: the scan, a pick around each x, and the larger and the smaller of two
 pub record Machine (S : Type 0) : Type 0 where
@@ -67,6 +66,11 @@ signals O g = record {
   the_larger = λ s t x. larger O (s x) (t x);
   the_smaller = λ s t x. smaller O (s x) (t x);
 }
+
+-- the offsets that a signal can depend on, from lo to hi
+pub record Reach : Type 0 where
+  pub lo : ℤ
+  pub hi : ℤ
 
 -- the reach of the larger or the smaller of two signals: least lo to greatest hi
 unfoldable pub both_reach : Reach → Reach → Reach

@@ -1,16 +1,15 @@
 -- Only private contracts cite this: the steps of a range of codes, all steps judged, and document 01's column "Reach" row by row.
-use Rattle.std.specs.Prelude.{Result, Ok, Err}
-use Rattle.refusals.specs.declared.Refusal.{Refusal}
-use Rattle.refusals.specs.Refusals.{Checked}
-use Rattle.std.specs.Prelude.{ℕ, ◌*◌, ◌/◌, ◌≤◌, Bool, cond, ◌&&◌, List, [], eqb, ℤ, pos, neg_ℤ, ◌+ℤ◌, ◌-ℤ◌, length}
-use Rattle.std.specs.Int.Signed.{mag, le_z}
+use Rattle.std.specs.Prelude.{Err, Option, Some, None}
+use Rattle.std.proofs.Math.Option.{Option as Maybe, none, some}
+use Rattle.refusals.specs.declared.Refusal.TheVariants.{SignalsHeld, FarReach}
+use Rattle.refusals.specs.Refusals.{Checked, refuse_if}
+use Rattle.std.specs.Prelude.{ℕ, ◌/◌, ◌≤◌, cond, not, get_or, List, [], eqb, ℤ, pos, nat_abs, ◌+ℤ◌, ◌-ℤ◌, length}
 use Rattle.limits.specs.Limits.{reach, step_bytes}
 use Rattle.theory.specs.Signals.{window, offsets, leftmost, rightmost}
 use Rattle.recipes.specs.declared.Step.{Step}
 use Rattle.recipes.specs.declared.Step.TheVariants.{Signal, Erode, Dilate, Open, Close, Rank, Median, Larger, Smaller}
-use Rattle.recipes.specs.declared.Reach.{Reach}
-use Rattle.recipes.specs.Machine.{both_reach}
-use Rattle.recipes.specs.Judge.{judged_from}
+use Rattle.recipes.specs.Machine.{Reach, both_reach, reaches}
+use Rattle.recipes.specs.Judge.{in_reach, judged_from}
 
 -- the step of a code from 1 to 4
 abbrev pub change_of : ℕ → ℕ → Step
@@ -20,34 +19,26 @@ change_of code B = cond (eqb code 1) (Erode B) (cond (eqb code 2) (Dilate B) (co
 abbrev pub join_of : ℕ → Step
 join_of code = cond (eqb code 7) Larger Smaller
 
--- why what is decoded is no step; fine where it is one
-abbrev pub refusal_in : Result Step Refusal → Checked
-refusal_in (Ok s) = Ok tt
-refusal_in (Err why) = Err why
-
 -- all the steps of a recipe, judged
 unfoldable pub judged : List ℕ → Checked
 judged r = judged_from r (length r / step_bytes) 0 []
 
--- -4 to 4
-unfoldable pub is_near : ℤ → Bool
-is_near z = le_z (neg_ℤ (pos reach)) z && le_z z (pos reach)
+-- step i, with what it makes of the reaches held: 4 where it cannot be done, 5 where the reach of the last signal leaves
+unfoldable pub step_checked : ℕ → Maybe (List Reach) → Checked
+step_checked i none = Err (SignalsHeld i)
+step_checked i (some st) = refuse_if (not (in_reach (get_or st 0 reaches.the_scan))) (FarReach i)
 
 -- the reach of the scan: 0 to 0
 abbrev pub origin : Reach
 origin = record { lo = pos 0; hi = pos 0 }
 
--- a number of at most n times the reach: sums of a few of these do not wrap
-abbrev pub Near : ℕ → ℤ → Type 0
-Near n z = mag z ≤ n * reach
+-- an end of a reach that lies in -4 to 4
+abbrev pub Little : ℤ → Type 0
+Little z = nat_abs z ≤ reach
 
--- a reach with both ends in -4 to 4
-abbrev pub Little : Reach → Type 0
-Little r = Near 1 r.lo × Near 1 r.hi
-
--- with its ends moved
-abbrev pub moved : ℤ → ℤ → Reach → Reach
-moved left right r = record { lo = r.lo +ℤ left; hi = r.hi +ℤ right }
+-- a reach that lies in -4 to 4, if it does
+abbrev pub within : Reach → Option Reach
+within r = cond (in_reach r) (Some r) None
 
 -- the least and the greatest offset of B
 abbrev pub min_of : ℕ → ℤ

@@ -4,18 +4,22 @@
 
 #![tactic(auto)]
 
-ghost use Rattle.std.specs.Prelude.{◌≡◌, ◌-ℤ◌, get_or};
-ghost use Rattle.std.specs.Int.Signed.{le_z};
-ghost use Rattle.theory.specs.Orders.{smaller as smaller_of, larger as larger_of};
+ghost use Rattle.std.specs.Prelude.{◌≡◌, ◌*◌, ◌/◌, ◌≤◌, ◌<◌, ◌-ℤ◌, List, [], ◌∷◌, ◌++◌, length, get_or, reverse, Ok, IfOk, IfErr};
+ghost use Rattle.std.proofs.Math.Option.{some};
+ghost use Rattle.std.specs.Int.Signed.{mag};
+ghost use Rattle.limits.specs.Limits.{reach, most_signals, step_bytes};
+ghost use Rattle.refusals.specs.declared.Refusal.TheVariants.{SignalsHeld};
 ghost use Rattle.theory.specs.Signals.{window, size as size_of};
-ghost use Rattle.recipes.specs.Steps.{no_fields, set_alone, rank_fits, odd_set, allowed, decoded_of, step_at};
-ghost use Rattle.recipes.specs.Machine.{both_reach};
-ghost use Rattle.recipes.specs.Judge.{in_reach, recipe_checked};
-ghost use Rattle.recipes.specs.Private.{change_of, join_of, refusal_in, judged, is_near, taken};
-ghost use Rattle.recipes.specs.Private.{Near, Little, min_of, max_of, moved, eroded_reach, dilated_reach, opened_reach, reach_left};
+ghost use Rattle.recipes.specs.Steps.{no_fields, set_alone, rank_fits, odd_set, allowed as allowed_of, decoded_of, step_at};
+ghost use Rattle.recipes.specs.Machine.{act, reaches, both_reach};
+ghost use Rattle.recipes.specs.Judge.{recipe_checked};
+ghost use Rattle.recipes.specs.Private.{change_of, join_of, judged, origin, within, step_checked};
+ghost use Rattle.recipes.specs.Private.{min_of, max_of, eroded_reach, dilated_reach, opened_reach};
 
+use arrayvec::ArrayVec;
 use limits::{MOST_SIGNALS, MOST_STEPS, PATTERNS, STEP_BYTES};
 use refusals::Refusal;
+use std::marker::Model;
 
 // The bytes of a recipe of the most steps.
 const LONGEST_RECIPE: usize = STEP_BYTES * MOST_STEPS;
@@ -34,87 +38,88 @@ pub enum Step {
     Smaller,
 }
 
-// The offsets that a signal can depend on, from lo to hi.
-#[derive(Clone, Copy)]
-struct Reach {
-    lo: i32,
-    hi: i32,
-}
-
 // The set of all offsets.
 const ALL_OFFSETS: u16 = (PATTERNS - 1) as u16;
 // The greatest offset.
-const FAR: i32 = limits::REACH as i32;
+const FAR: u32 = limits::REACH as u32;
 
 // How many offsets a set has; bits that stand for none do not count. Refuses nothing.
+#[tactic(auto, unfolding(theory::specs::Signals::size, theory::specs::Signals::window, theory::specs::Signals::wide), using(crate::proofs::Decodes::low_ones))]
 pub fn size(set: u16) -> u8
     ensures { result ≡ size_of window set }
 {
     u16::count_ones(set & ALL_OFFSETS) as u8
 }
 
-// Whether a step that has no field has none.
-fn no_fields(k: u8, set: u16) -> bool
-    ensures { result ≡ no_fields k set }
-{
-    (k == 0) & (set == 0)
+// The fields of a step: its rank k and its set B.
+#[derive(Clone, Copy)]
+struct Fields {
+    rank: u8,
+    set: u16,
 }
 
-// Whether the set is the only field.
-fn set_alone(k: u8, set: u16) -> bool
-    ensures { result ≡ set_alone k set }
-{
-    (k == 0) & bits::is_set(set)
-}
-
-// Whether the rank is 1 to the size of the set.
-fn rank_fits(k: u8, set: u16) -> bool
-    ensures { result ≡ rank_fits k set }
-{
-    bits::is_set(set) & ((1 <= k) & (k <= size(set)))
-}
-
-// Whether the set is the only field, and has an odd size.
-fn odd_set(k: u8, set: u16) -> bool
-    ensures { result ≡ odd_set k set }
-{
-    set_alone(k, set) & (size(set) % 2 == 1)
-}
-
-// A step whose fields are allowed, or refusal 3.
-fn allow(place: usize, ok: bool, step: Step) -> Result<Step, Refusal>
-    ensures { result ≡ allowed place ok step }
-{
-    if ok {
-        return Ok(step);
+impl Fields {
+    // Whether a step that has no field has none.
+    fn are_none(self) -> bool
+        ensures { result ≡ no_fields self.rank self.set }
+    {
+        self.rank == 0 && self.set == 0
     }
-    Err(Refusal::StepField(place))
+
+    // Whether the set is the only field.
+    fn are_set(self) -> bool
+        ensures { result ≡ set_alone self.rank self.set }
+    {
+        self.rank == 0 && bits::is_set(self.set)
+    }
+
+    // Whether the rank is 1 to the size of the set.
+    #[tactic(auto, unfolding(crate::specs::Steps::rank_fits))]
+    fn are_rank(self) -> bool
+        ensures { result ≡ rank_fits self.rank self.set }
+    {
+        bits::is_set(self.set) && 1 <= self.rank && self.rank <= size(self.set)
+    }
+
+    // Whether the set is the only field, and has an odd size.
+    #[tactic(auto, unfolding(crate::specs::Steps::odd_set))]
+    fn are_odd_set(self) -> bool
+        ensures { result ≡ odd_set self.rank self.set }
+    {
+        self.are_set() && (size(self.set) % 2 == 1)
+    }
 }
 
 // The step of a code from 1 to 4.
 fn change_of(code: u8, set: u16) -> Step
     ensures { result ≡ change_of code set }
 {
-    if code == 1 {
-        return Step::Erode(set);
+    match code {
+        1 => Step::Erode(set),
+        2 => Step::Dilate(set),
+        3 => Step::Open(set),
+        _ => Step::Close(set),
     }
-    if code == 2 {
-        return Step::Dilate(set);
-    }
-    if code == 3 {
-        return Step::Open(set);
-    }
-    Step::Close(set)
 }
 
 // The step of a code from 7 to 8.
 fn join_of(code: u8) -> Step
     ensures { result ≡ join_of code }
 {
-    if code == 7 {
-        return Step::Larger;
+    match code {
+        7 => Step::Larger,
+        _ => Step::Smaller,
     }
-    Step::Smaller
+}
+
+// A step whose fields are allowed, or refusal 3.
+fn allow(place: usize, allowed: bool, step: Step) -> Result<Step, Refusal>
+    ensures { result ≡ allowed_of place allowed step }
+{
+    if !allowed {
+        return Err(Refusal::StepField(place));
+    }
+    Ok(step)
 }
 
 // The step of a code, a rank and a set, which stands at a place of a recipe. Refuses 2 where the code is
@@ -122,12 +127,14 @@ fn join_of(code: u8) -> Step
 pub fn decode(place: usize, code: u8, rank: u8, set: u16) -> Result<Step, Refusal>
     ensures { result ≡ decoded_of place code rank set }
 {
+    let fields = Fields { rank, set };
+    // The codes stay numbers in ranges: document 01's "Code places and language forms" names this match.
     match code {
-        0 => allow(place, no_fields(rank, set), Step::Signal),
-        1..=4 => allow(place, set_alone(rank, set), change_of(code, set)),
-        5 => allow(place, rank_fits(rank, set), Step::Rank { k: rank, set }),
-        6 => allow(place, odd_set(rank, set), Step::Median(set)),
-        7..=8 => allow(place, no_fields(rank, set), join_of(code)),
+        0 => allow(place, fields.are_none(), Step::Signal),
+        1..=4 => allow(place, fields.are_set(), change_of(code, set)),
+        5 => allow(place, fields.are_rank(), Step::Rank { k: rank, set }),
+        6 => allow(place, fields.are_odd_set(), Step::Median(set)),
+        7..=8 => allow(place, fields.are_none(), join_of(code)),
         _ => Err(Refusal::StepCode(place)),
     }
 }
@@ -136,14 +143,12 @@ pub fn decode(place: usize, code: u8, rank: u8, set: u16) -> Result<Step, Refusa
 fn byte_at(recipe: &[u8], k: usize) -> u8
     ensures { result ≡ get_or recipe.now k 0 }
 {
-    if k < recipe.len() {
-        return recipe[k];
-    }
-    0
+    recipe.get(k).copied().unwrap_or(0)
 }
 
 // The step at a place of a recipe, from 0: its four bytes decoded, those past the end read as 0. Refuses
 // as `decode` does.
+#[tactic(auto, unfolding(crate::specs::Steps::step_at), using(crate::proofs::Decodes::step_past))]
 pub fn step_at(recipe: &[u8], place: usize) -> Result<Step, Refusal>
     ensures { result ≡ step_at recipe.now place }
 {
@@ -158,170 +163,158 @@ pub fn step_at(recipe: &[u8], place: usize) -> Result<Step, Refusal>
     decode(place, code, rank, bits::word(low, high))
 }
 
-// The smaller of two offsets.
-fn smaller(a: i32, b: i32) -> i32
-    ensures { result ≡ smaller_of le_z a b }
-{
-    if a <= b { a } else { b }
+// The offsets that a signal held can depend on, from lo to hi: both are -4 to 4.
+#[derive(Clone, Copy)]
+struct Reach {
+    lo: i32,
+    hi: i32,
 }
 
-// The larger of two offsets.
-fn larger(a: i32, b: i32) -> i32
-    ensures { result ≡ larger_of le_z a b }
-{
-    if a <= b { b } else { a }
+impl Model for Reach {
+    ghost use Rattle.recipes.specs.Machine.{Reach as Ends};
+    ghost use Rattle.recipes.specs.Private.{Little};
+
+    ghost Value = { Ends };
+
+    ghost view = { λ r. record { lo = r.lo; hi = r.hi } };
+
+    ghost invariant = { λ r. Little r.lo × Little r.hi };
+
+    ghost inverse = { λ r. record { lo = r.lo; hi = r.hi } };
 }
 
-// Whether an end of a reach is -4 to 4.
-fn is_near(z: i32) -> bool
-    ensures { result ≡ is_near z }
-{
-    (-FAR <= z) & (z <= FAR)
-}
+// The scan's: 0 to 0.
+impl Default for Reach {
+    ghost is_default = { λ r. r ≡ origin };
 
-// Whether a reach lies in -4 to 4.
-fn is_in_reach(reach: Reach) -> bool
-    ensures { result ≡ in_reach reach }
-{
-    is_near(reach.lo) & is_near(reach.hi)
-}
-
-// A reach whose ends are moved.
-fn move_ends(reach: Reach, left: i32, right: i32) -> Reach
-    requires { Little reach × Near 4 left × Near 4 right }
-    ensures { result ≡ moved left right reach }
-{
-    Reach {
-        lo: reach.lo + left,
-        hi: reach.hi + right,
+    fn default() -> Reach {
+        Reach { lo: 0, hi: 0 }
     }
-}
-
-// The reach of an erode, a rank or a median: lo+min B to hi+max B.
-fn erode_reach(reach: Reach, set: u16) -> Reach
-    requires { Little reach }
-    ensures { result ≡ eroded_reach set reach }
-{
-    move_ends(
-        reach,
-        windows::least_offset(set),
-        windows::greatest_offset(set),
-    )
-}
-
-// The reach of a dilate: lo-max B to hi-min B.
-fn dilate_reach(reach: Reach, set: u16) -> Reach
-    requires { Little reach }
-    ensures { result ≡ dilated_reach set reach }
-{
-    let least = windows::least_offset(set);
-    let greatest = windows::greatest_offset(set);
-    move_ends(reach, -greatest, -least)
 }
 
 // max B-min B.
 fn span(set: u16) -> i32
-    ensures { (result ≡ max_of set -ℤ min_of set) × Near 3 result }
+    ensures { (result ≡ max_of set -ℤ min_of set) × (mag result ≤ 3 * reach) }
 {
     windows::greatest_offset(set) - windows::least_offset(set)
 }
 
-// The reach of an open or a close: lo-(max B-min B) to hi+(max B-min B).
-fn open_reach(reach: Reach, set: u16) -> Reach
-    requires { Little reach }
-    ensures { result ≡ opened_reach set reach }
-{
-    let span = span(set);
-    move_ends(reach, -span, span)
-}
+impl Reach {
+    // With ends of its own, where they are -4 to 4.
+    #[tactic(auto, unfolding(crate::specs::Judge::in_reach))]
+    fn new(lo: i32, hi: i32) -> Option<Reach>
+        ensures { result ≡ within (record { lo = lo; hi = hi }) }
+    {
+        if FAR < lo.unsigned_abs() || FAR < hi.unsigned_abs() {
+            return None;
+        }
+        Some(Reach { lo, hi })
+    }
 
-// The reach of the larger or the smaller of two signals.
-fn join_reach(q: Reach, r: Reach) -> Reach
-    requires { Little q × Little r }
-    ensures { result ≡ both_reach q r }
-{
-    Reach {
-        lo: smaller(q.lo, r.lo),
-        hi: larger(q.hi, r.hi),
+    // After an erode, a rank or a median: lo+min B to hi+max B.
+    #[tactic(auto, unfolding(crate::specs::Private::eroded_reach))]
+    fn eroded(self, set: u16) -> Option<Reach>
+        ensures { result ≡ within (eroded_reach set self) }
+    {
+        Reach::new(
+            self.lo + windows::least_offset(set),
+            self.hi + windows::greatest_offset(set),
+        )
+    }
+
+    // After a dilate: lo-max B to hi-min B.
+    #[tactic(auto, unfolding(crate::specs::Private::dilated_reach))]
+    fn dilated(self, set: u16) -> Option<Reach>
+        ensures { result ≡ within (dilated_reach set self) }
+    {
+        Reach::new(
+            self.lo - windows::greatest_offset(set),
+            self.hi - windows::least_offset(set),
+        )
+    }
+
+    // After an open or a close: lo-(max B-min B) to hi+(max B-min B).
+    #[tactic(auto, unfolding(crate::specs::Private::opened_reach))]
+    fn opened(self, set: u16) -> Option<Reach>
+        ensures { result ≡ within (opened_reach set self) }
+    {
+        let span = span(set);
+        Reach::new(self.lo - span, self.hi + span)
+    }
+
+    // Of the larger or the smaller of two signals.
+    #[tactic(auto, unfolding(crate::specs::Machine::both_reach))]
+    fn joined(self, last: Reach) -> Option<Reach>
+        ensures { result ≡ within (both_reach self last) }
+    {
+        Reach::new(self.lo.min(last.lo), self.hi.max(last.hi))
     }
 }
 
-// How many signals a step takes.
-fn takes(step: Step) -> usize
-    ensures { result ≡ taken step }
-{
-    match step {
-        Step::Signal => 0,
-        Step::Erode(_) => 1,
-        Step::Dilate(_) => 1,
-        Step::Open(_) => 1,
-        Step::Close(_) => 1,
-        Step::Rank { k: _, set: _ } => 1,
-        Step::Median(_) => 1,
-        Step::Larger => 2,
-        Step::Smaller => 2,
-    }
+// The reaches of the signals held, in the order in which they were added.
+#[derive(Drop)]
+struct Held {
+    reaches: ArrayVec<Reach, MOST_SIGNALS>,
+    ghost few: { length reaches.items ≤ most_signals },
 }
 
-// The reach of the signal that a step leaves, of the reaches of the signals that it takes: document 01's
-// column. What the step does not take is not read.
-fn reach_after(step: Step, q: Reach, r: Reach) -> Reach
-    requires { Little q × Little r }
-    ensures { result ≡ reach_left step q r }
-{
-    match step {
-        Step::Signal => Reach { lo: 0, hi: 0 },
-        Step::Erode(set) => erode_reach(q, set),
-        Step::Dilate(set) => dilate_reach(q, set),
-        Step::Open(set) => open_reach(q, set),
-        Step::Close(set) => open_reach(q, set),
-        Step::Rank { k: _, set } => erode_reach(q, set),
-        Step::Median(set) => erode_reach(q, set),
-        Step::Larger => join_reach(q, r),
-        Step::Smaller => join_reach(q, r),
+impl Held {
+    // The last signal's, which is held no longer. Refuses 4 with the place, where none is held.
+    fn take(&mut self, place: usize) -> Result<Reach, Refusal>
+        ensures ok { IfOk result (λ last. self.old.reaches.items ≡ self.new.reaches.items ++ last ∷ []) }
+        ensures err { IfErr result (λ why. (why ≡ SignalsHeld place) × (self.old.reaches.items ≡ [])) }
+    {
+        self.reaches.pop().ok_or(Refusal::SignalsHeld(place))
     }
-}
 
-// Why what is decoded is no step, if it is none.
-fn refuse(decoded: Result<Step, Refusal>) -> Result<(), Refusal>
-    ensures { result ≡ refusal_in decoded }
-{
-    decoded?;
-    Ok(())
+    // Holds one more. Refuses 4 with the place, where it would be a ninth.
+    fn hold(&mut self, place: usize, reach: Reach) -> Result<(), Refusal>
+        ensures ok { IfOk result (λ _. (self.new.reaches.items ≡ self.old.reaches.items ++ reach ∷ [])
+            × (length self.old.reaches.items < most_signals)) }
+        ensures err { IfErr result (λ why. (why ≡ SignalsHeld place) × (length self.old.reaches.items ≡ most_signals)) }
+    {
+        self.reaches
+            .try_push(reach)
+            .or(Err(Refusal::SignalsHeld(place)))
+    }
+
+    // What a step leaves. Refuses 4, and then 5, with the place.
+    fn perform(&mut self, place: usize, step: Step) -> Result<(), Refusal>
+        ensures answer { result ≡ step_checked place (act reaches step (reverse self.old.reaches.items)) }
+        ensures held { IfOk result (λ _. some (reverse self.new.reaches.items) ≡ act reaches step (reverse self.old.reaches.items)) }
+    {
+        let left = match step {
+            Step::Signal => Some(Reach::default()),
+            Step::Erode(set) | Step::Rank { k: _, set } | Step::Median(set) => self
+                .take(place)?
+                .eroded(set),
+            Step::Dilate(set) => self.take(place)?.dilated(set),
+            Step::Open(set) | Step::Close(set) => self.take(place)?.opened(set),
+            Step::Larger | Step::Smaller => {
+                let last = self.take(place)?;
+                self.take(place)?.joined(last)
+            }
+        };
+        self.hold(place, left.ok_or(Refusal::FarReach(place))?)
+    }
 }
 
 // Whether a recipe's steps are accepted: step by step 2, 3, 4, 5, then 4 at the end.
-//
-// The reach of each signal held stands in the order in which they were added. A step leaves its signal
-// where the first of those that it takes stood. The array has one element more than signals may be held,
-// so that the one after that can always be read.
 fn judge_steps(recipe: &[u8]) -> Result<(), Refusal>
     ensures { result ≡ judged recipe.now }
 {
     let steps = recipe.len() / STEP_BYTES;
-    let mut reaches = [Reach { lo: 0, hi: 0 }; MOST_SIGNALS + 1];
-    let mut count: usize = 0;
-    for i in 0..steps {
-        let decoded = step_at(recipe, i);
+    let mut held = Held {
+        reaches: ArrayVec::new(),
+    };
+    for place in 0..steps {
+        let decoded = step_at(recipe, place);
         let Ok(step) = decoded else {
-            return refuse(decoded);
+            return decoded.map(|_| ());
         };
-        let taken = takes(step);
-        if count < taken {
-            return Err(Refusal::SignalsHeld(i));
-        }
-        let at = count - taken;
-        if MOST_SIGNALS <= at {
-            return Err(Refusal::SignalsHeld(i));
-        }
-        let reach = reach_after(step, reaches[at], reaches[at + 1]);
-        if !is_in_reach(reach) {
-            return Err(Refusal::FarReach(i));
-        }
-        reaches[at] = reach;
-        count = at + 1;
+        held.perform(place, step)?;
     }
-    if count != 1 {
+    if held.reaches.len() != 1 {
         return Err(Refusal::SignalsHeld(steps));
     }
     Ok(())
@@ -338,4 +331,43 @@ pub fn judge(recipe: &[u8]) -> Result<(), Refusal>
         return Err(Refusal::RecipeLength(n));
     }
     judge_steps(recipe)
+}
+
+// A recipe that is accepted: its bytes.
+#[derive(Clone, Copy)]
+pub struct Recipe<'a> {
+    bytes: &'a [u8],
+    pub ghost fine: { recipe_checked bytes.now ≡ Ok tt },
+}
+
+impl<'a> Recipe<'a> {
+    // The recipe, where it is accepted. Refuses as `judge` does.
+    pub fn new(recipe: &'a [u8]) -> Result<Recipe<'a>, Refusal>
+        ensures ok { IfOk result (λ accepted. accepted.bytes.now ≡ recipe.now) }
+        ensures err { IfErr result (λ why. recipe_checked recipe.now ≡ Err why) }
+    {
+        judge(recipe)?;
+        Ok(Recipe { bytes: recipe })
+    }
+
+    // Its bytes.
+    pub fn bytes(&self) -> &'a [u8]
+        ensures { result.now ≡ self.now.bytes.now }
+    {
+        self.bytes
+    }
+
+    // How many steps it has.
+    pub fn steps(&self) -> usize
+        ensures { result ≡ length self.now.bytes.now / step_bytes }
+    {
+        self.bytes.len() / STEP_BYTES
+    }
+
+    // The step at a place, from 0, as `step_at` of its bytes has it.
+    pub fn step_at(&self, place: usize) -> Result<Step, Refusal>
+        ensures { result ≡ step_at self.now.bytes.now place }
+    {
+        step_at(self.bytes, place)
+    }
 }
