@@ -18,10 +18,7 @@ const TERM_BITS: usize = 16;
 fn is_over(width: usize, term: u16) -> bool
     ensures { result ≡ leb (2 ^ width) term }
 {
-    if width < TERM_BITS {
-        return 0 < term >> width;
-    }
-    false
+    width < TERM_BITS && 0 < term >> width
 }
 
 // Whether the term at i contains one before it.
@@ -30,12 +27,9 @@ fn contains_earlier(terms: &[u16], i: usize) -> bool
     ensures { result ≡ contains_earlier terms.now i }
 {
     let term = terms[i];
-    for j in 0..i {
-        if bits::is_within(terms[j], term) {
-            return true;
-        }
-    }
-    false
+    terms[..i]
+        .iter()
+        .any(|&earlier| bits::is_within(earlier, term))
 }
 
 // Whether the term at i is one that refusal 7 names.
@@ -52,15 +46,13 @@ fn is_bad(width: usize, terms: &[u16], i: usize) -> bool
 fn check_terms(width: usize, terms: &[u16]) -> Result<(), Refusal>
     ensures { result ≡ terms_checked width terms.now }
 {
-    for i in 0..terms.len() {
-        if is_bad(width, terms, i) {
-            return Err(Refusal::BadTerm(i));
-        }
+    match (0..terms.len()).find(|&i| is_bad(width, terms, i)) {
+        Some(i) => Err(Refusal::BadTerm(i)),
+        None => Ok(()),
     }
-    Ok(())
 }
 
-// Whether a list of terms is a form of a window of so many positions. Refuses the first bad term, then over 126 terms.
+// Whether a list of terms is a form of a window of so many positions. Refuses 7 at the first bad term, then 8 over 126 terms.
 #[tactic(auto, unfolding(crate::specs::Check::form_checked))]
 pub fn check(width: usize, terms: &[u16]) -> Result<(), Refusal>
     ensures { result ≡ form_checked width terms.now }

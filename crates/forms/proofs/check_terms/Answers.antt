@@ -1,24 +1,24 @@
-use Rattle.std.proofs.Common.{rules, arith, sym, ◌∙◌, length}
+-- `forms::check_terms` meets its contract. Assumes nothing.
+use Rattle.std.proofs.Common.{rules, ◌≡◌, true, false, length, Some, None}
+use Rattle.std.proofs.lemmas.Iterator.{first_from_Range}
+use borrow.Author.Tests.{tests}
 use Rattle.theory.specs.Forms.{is_bad}
 use Rattle.forms.specs.Check.{terms_checked}
-use Rattle.theory.proofs.Lists.{first_at, any_below-at, any_below_none}
+use Rattle.forms.proofs.Chains.{first_found}
 use Rattle.forms.proofs.check_terms.Goals as goal
 
-pub returns-then-is_bad : goal.returns-then-is_bad
+pub returns-in-Some : goal.returns-in-Some
 unfolding terms_checked
-returns-then-is_bad c =
-    let i = c.loop-i.i in
-    let w = c.args.width in
-    let ts = c.args.terms.now in
-    let bad = sym c.is_bad.ensures ∙ c.if-is_bad.true in
-    rw (
-      any_below-at (is_bad w ts) (length ts) i (search rules) c.loop-i.invariant bad,
-      first_at (is_bad w ts) (length ts) i (search rules) c.loop-i.invariant bad,
-    )
+returns-in-Some c =
+    let bad = is_bad c.args.width c.args.terms.now in
+    let found = first_from_Range _ _ _ (Some c.in-Some.i) (λ i. bad i ≡ true) (λ i. bad i ≡ false) c.in-Some.ensures.ran (λ x q k. search (rules, tests)) (λ x q k. search (rules, tests)) in
+    let first = first_found bad (length c.args.terms.now) (Some c.in-Some.i) found in
+    rw (first.0, first.1)
 
-pub returns : goal.returns
+pub returns-in-None : goal.returns-in-None
 unfolding terms_checked
-returns c =
-    let w = c.args.width in
-    let ts = c.args.terms.now in
-    rw (any_below_none (is_bad w ts) (length ts) (λ k l. c.loop-i.invariant k (omega arith)))
+returns-in-None c =
+    let bad = is_bad c.args.width c.args.terms.now in
+    let found = first_from_Range _ _ _ None (λ i. bad i ≡ true) (λ i. bad i ≡ false) c.in-None.ensures.ran (λ x q k. search (rules, tests)) (λ x q k. search (rules, tests)) in
+    let first = first_found bad (length c.args.terms.now) None found in
+    rw first
