@@ -1,4 +1,5 @@
 -- What is shown of the table calls.
+pub mod Chains
 pub mod Bytes
 pub mod Accepted
 pub mod Twelve

@@ -1,13 +1,12 @@
-use Rattle.std.proofs.Common.{arith, ◌∙◌}
-use Rattle.theory.proofs.Fills.{fill_none, fill_more}
-use Rattle.tables.proofs.Bytes.{filled_gather}
+-- `tables::byte_of` meets its contract. Assumes nothing.
+use Rattle.std.proofs.Common.{rules, ◌∙◌, ◌+◌, ◌*◌}
+use borrow.Author.Tests.{tests}
+use Rattle.limits.specs.Limits.{byte_bits}
+use Rattle.theory.specs.Forms.{holds}
+use Rattle.tables.proofs.Chains.{made_byte}
 use Rattle.tables.proofs.byte_of.Goals as goal
 
-pub loop-i-init : goal.loop-i-init
-loop-i-init c = fill_none _ _
-
-pub loop-i-preserved : goal.loop-i-preserved
-loop-i-preserved c = fill_more c.loop-i.invariant (omega arith) c.holds_on.ensures
-
 pub returns : goal.returns
-returns c = c.byte.ensures ∙ filled_gather c.loop-i.invariant (omega arith)
+returns c =
+    c.byte.ensures
+    ∙ made_byte _ _ _ (λ i. holds c.args.terms.now (byte_bits * c.args.j + i)) (λ k y q l r. search (rules, tests)) c.from_fn.ensures.items

@@ -5,7 +5,7 @@ use Rattle.theory.specs.Forms.{minimal, form_of}
 use Rattle.theory.specs.Tables.{table_at}
 use Rattle.tables.specs.Tables.{form_in}
 use Rattle.theory.proofs.Keeps.{kept, kept_none, kept-length, kept_more, kept_room}
-use Rattle.tables.proofs.fill_terms.Goals as goal
+use Rattle.tables.proofs.Steady.fill_terms.Goals as goal
 
 pub loop-v-init : goal.loop-v-init
 loop-v-init c = (simp kept_none, simp kept_none)
@@ -13,13 +13,13 @@ loop-v-init c = (simp kept_none, simp kept_none)
 pub put-n-requires : goal.put-n-requires
 unfolding form_in form_of kept
 put-n-requires c =
-    let p = minimal (table_at c.args.table.now) in
+    let p = minimal (table_at c.args.self.now.table.now) in
     (λ e. omega (arith, kept_room p c.loop-v.v patterns (omega arith) (sym c.is_term.ensures ∙ e)), omega arith)
 
 pub loop-v-preserved : goal.loop-v-preserved
 unfolding form_in form_of kept
 loop-v-preserved c =
-    let p = minimal (table_at c.args.table.now) in
+    let p = minimal (table_at c.args.self.now.table.now) in
     let v = c.loop-v.v in
     let term = c.is_term in
     let one : bit term.result ≡ bit (p v) = ap bit term.ensures in
