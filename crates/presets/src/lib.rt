@@ -4,13 +4,14 @@
 
 #![tactic(auto)]
 
-ghost use Rattle.std.specs.Prelude.{◌≡◌, cond, ◌<◌, get_or};
-ghost use Rattle.limits.specs.Limits.{presets, table_bytes};
+ghost use Rattle.std.specs.Prelude.{◌≡◌, cond};
+ghost use Rattle.limits.specs.Limits.{table_bytes};
 ghost use Rattle.theory.specs.Tables.{table_of};
-ghost use Rattle.presets.specs.Presets.{preset_tables, on_window, Preset};
+ghost use Rattle.presets.specs.Presets.{on_window, Preset};
 
 use limits::{PRESETS, TABLE_BYTES};
 use refusals::Refusal;
+use std::array;
 
 // Window three has so many samples, and they have so many patterns.
 const THREE: usize = 3;
@@ -22,15 +23,6 @@ const TABLES: [u8; PRESETS] = [
     0, 128, 136, 160, 168, 170, 192, 200, 204, 224, 232, 234, 236, 238, 240, 248, 250, 252, 254,
     255,
 ];
-
-// The 8-bit table of a preset.
-#[tactic(auto, unfolding(crate::specs::Presets::preset_tables))]
-fn look_up(number: usize) -> u8
-    requires { number < presets }
-    ensures { result ≡ get_or preset_tables number 0 }
-{
-    TABLES[number]
-}
 
 // A byte of eight equal bits.
 fn repeat(b: bool) -> u8
@@ -44,23 +36,19 @@ fn repeat(b: bool) -> u8
 fn tabulate(small: u8) -> [u8; TABLE_BYTES]
     ensures { result ≡ table_of table_bytes (on_window small) }
 {
-    let mut table = [0u8; TABLE_BYTES];
-    for j in 0..TABLE_BYTES {
-        table[j] = repeat(bits::has(small as usize, j % THREE_PATTERNS));
-    }
-    table
+    array::from_fn(|j| repeat(bits::has(small as usize, j % THREE_PATTERNS)))
 }
 
 // A preset's form: answers the number of terms, and writes the form from the start of `terms`.
-// Refuses a number over 19, then fewer elements lent than the form has terms.
-#[tactic(auto, unfolding(crate::specs::Presets::preset_checked))]
+// Refuses 14 where the number is over 19, then 6 where fewer elements are lent than the form has terms.
+#[tactic(auto, unfolding(crate::specs::Presets::preset_checked, crate::specs::Presets::preset_tables))]
 pub fn preset(number: u64, terms: &mut [u16]) -> Result<usize, Refusal>
     ensures { Preset number terms.old terms.new result }
 {
     let i = number as usize;
-    if PRESETS <= i {
+    let Some(&small) = TABLES.get(i) else {
         return Err(Refusal::PresetNumber(i));
-    }
-    let table = tabulate(look_up(i));
+    };
+    let table = tabulate(small);
     tables::table_to_form(&table, terms)
 }
