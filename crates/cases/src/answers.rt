@@ -1,64 +1,52 @@
-// What a call answered, on its line: a number and the values.
-//
-// The number is 0 where the call was accepted. Else it is the refusal's, and the one value its place.
+// What a call answered, as its line has it: its values, or the number and the place of a refusal.
 use files::ReadAnswer;
 use refusals::{Answer, Checked, Refusal};
 use reports::CountAnswer;
 use scans::RootAnswer;
-use std::io::Write;
-use wire::output::word;
 
-fn accepted<W: Write>(out: &mut W, value: usize) {
-    word(out, 0);
-    word(out, value as u64);
-}
-
-fn refused<W: Write>(out: &mut W, refusal: Refusal) {
-    word(out, refusal.number as u64);
-    word(out, refusal.place as u64);
+fn told(refusal: Refusal) -> (u8, usize) {
+    (refusal.number, refusal.place)
 }
 
 // A call whose answer is one value.
-pub fn answered<W: Write>(out: &mut W, answer: Answer) {
+pub fn done(answer: Answer) -> Result<[u64; 1], (u8, usize)> {
     match answer {
-        Answer::Done(n) => accepted(out, n),
-        Answer::Refused(refusal) => refused(out, refusal),
+        Answer::Done(n) => Ok([n as u64]),
+        Answer::Refused(refusal) => Err(told(refusal)),
     }
 }
 
 // The check of a form of so many terms.
-pub fn checked<W: Write>(out: &mut W, checked: Checked, terms: usize) {
-    answered(out, refusals::answer_with(checked, terms));
+pub fn checked(checked: Checked, terms: usize) -> Result<[u64; 1], (u8, usize)> {
+    done(refusals::answer_with(checked, terms))
 }
 
-// The root question on so many samples.
-pub fn rooted<W: Write>(out: &mut W, answer: RootAnswer, samples: usize) {
+// The root question on so many samples: the first that differs, or their number where none does.
+pub fn rooted(answer: RootAnswer, samples: usize) -> Result<[u64; 1], (u8, usize)> {
     match answer {
-        RootAnswer::Root => accepted(out, samples),
-        RootAnswer::Differs(x) => accepted(out, x),
-        RootAnswer::Refused(refusal) => refused(out, refusal),
+        RootAnswer::Root => Ok([samples as u64]),
+        RootAnswer::Differs(x) => Ok([x as u64]),
+        RootAnswer::Refused(refusal) => Err(told(refusal)),
     }
 }
 
-pub fn read<W: Write>(out: &mut W, answer: ReadAnswer) {
+// The numbers of samples and of terms.
+pub fn read(answer: ReadAnswer) -> Result<[u64; 2], (u8, usize)> {
     match answer {
-        ReadAnswer::Read { samples, terms } => {
-            accepted(out, samples);
-            word(out, terms as u64);
-        }
-        ReadAnswer::Refused(refusal) => refused(out, refusal),
+        ReadAnswer::Read { samples, terms } => Ok([samples as u64, terms as u64]),
+        ReadAnswer::Refused(refusal) => Err(told(refusal)),
     }
 }
 
-pub fn counted<W: Write>(out: &mut W, answer: CountAnswer) {
+pub fn counted(answer: CountAnswer) -> Result<[u64; 5], (u8, usize)> {
     match answer {
-        CountAnswer::Counted(counts) => {
-            accepted(out, counts.samples as usize);
-            word(out, counts.changed);
-            word(out, counts.spikes);
-            word(out, counts.up);
-            word(out, counts.down);
-        }
-        CountAnswer::Refused(refusal) => refused(out, refusal),
+        CountAnswer::Counted(counts) => Ok([
+            counts.samples,
+            counts.changed,
+            counts.spikes,
+            counts.up,
+            counts.down,
+        ]),
+        CountAnswer::Refused(refusal) => Err(told(refusal)),
     }
 }

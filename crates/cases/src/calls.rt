@@ -1,168 +1,131 @@
-// The call that a record asks for, by its number.
+// The call that a record asks for.
 //
-// A slice is lent with a filler everywhere, at the length that stands next in the record: `lend_..`. It is
-// printed behind the answer, as the call left it: `show_..`. Where a call promises much it has a function of
-// its own that promises nothing, so that no other path carries its promise.
+// A slice is lent with a filler everywhere, at the length that stands next in the record, and is printed
+// behind the answer, as the call left it.
 use crate::answers;
+use crate::records::Record;
 use refusals::Answer;
 use std::io::{Read, Write};
-use wire::{input, output, room};
+use wire::Wire;
+use wire::room::{self, LENT_BYTES, LENT_WORDS, Lent};
 
-pub fn make<R: Read, W: Write>(
-    input: &mut R,
-    out: &mut W,
-    call: u16,
-    terms: &[u16],
-    scan: &[u16],
-    bytes: &[u8],
-) {
-    match call {
-        1 | 4 | 12 => ask(out, call, terms, scan, bytes),
-        3 => lend_residues(input, out, terms, scan),
-        6 | 10 | 13 => lend_bytes(input, out, call, terms, scan, bytes),
-        11 => lend_samples_and_terms(input, out, bytes),
-        _ => lend_words(input, out, call, terms, scan, bytes),
+#[derive(Clone, Copy)]
+pub enum Call {
+    Check,
+    Clean,
+    Residue,
+    Root,
+    TableToForm,
+    FormToTable,
+    Preset,
+    RunRecipe,
+    Compile,
+    Write,
+    Read,
+    Count,
+    Line,
+}
+
+// The numbers that second/README.md gives the calls. One that no call has stands for `compile`.
+impl From<u16> for Call {
+    fn from(number: u16) -> Call {
+        match number {
+            1 => Call::Check,
+            2 => Call::Clean,
+            3 => Call::Residue,
+            4 => Call::Root,
+            5 => Call::TableToForm,
+            6 => Call::FormToTable,
+            7 => Call::Preset,
+            8 => Call::RunRecipe,
+            10 => Call::Write,
+            11 => Call::Read,
+            12 => Call::Count,
+            13 => Call::Line,
+            _ => Call::Compile,
+        }
     }
 }
 
-// ---- calls that are lent nothing
-
-fn ask<W: Write>(out: &mut W, call: u16, terms: &[u16], scan: &[u16], bytes: &[u8]) {
+// Makes the call, and prints its answer and what it was lent.
+pub fn make<R: Read, W: Write>(wire: &mut Wire<R, W>, call: Call, record: Record<'_>) {
+    let Record { terms, scan, bytes } = record;
     match call {
-        1 => check(out, terms),
-        4 => answers::rooted(out, scans::root(terms, scan), scan.len()),
-        _ => count(out, bytes),
+        Call::Check => wire.answer(answers::checked(
+            forms::check(limits::WIDTH, terms),
+            terms.len(),
+        )),
+        Call::Clean => lend_words(wire, |_, lent| scans::clean(terms, scan, lent)),
+        Call::Residue => lend_residues(wire, |_, lent| scans::residue(terms, scan, lent)),
+        Call::Root => wire.answer(answers::rooted(scans::root(terms, scan), scan.len())),
+        Call::TableToForm => lend_words(wire, |_, lent| tables::table_to_form(bytes, lent)),
+        Call::FormToTable => lend_bytes(wire, |_, lent| tables::form_to_table(terms, lent)),
+        Call::Preset => lend_words(wire, |wire, lent| presets::preset(wire.number(), lent)),
+        Call::RunRecipe => lend_words(wire, |_, lent| runner::run(bytes, scan, lent)),
+        Call::Compile => lend_words(wire, |_, lent| compiler::compile(bytes, lent)),
+        Call::Write => lend_bytes(wire, |_, lent| files::write(terms, scan, lent)),
+        Call::Read => lend_samples_and_terms(wire, bytes),
+        Call::Count => wire.answer(answers::counted(reports::count(bytes))),
+        Call::Line => lend_bytes(wire, |_, lent| lines::line(bytes, lent)),
     }
 }
 
-fn check<W: Write>(out: &mut W, terms: &[u16]) {
-    answers::checked(out, forms::check(limits::WIDTH, terms), terms.len());
+// ---- calls that are lent a slice
+//
+// Three functions make the room: tried as one over the type and the length, and the proof did not close. A bound on N times the size
+// of a T is open there, and no clause can name a type parameter's size.
+
+fn lend_bytes<R: Read, W: Write, F: FnOnce(&mut Wire<R, W>, &mut [u8]) -> Answer>(
+    wire: &mut Wire<R, W>,
+    call: F,
+)
+    requires { F.IsAlwaysCallable call }
+{
+    let mut room: [u8; LENT_BYTES] = room::filled(u8::FILLER);
+    lend(wire, &mut room, call);
 }
 
-fn count<W: Write>(out: &mut W, file: &[u8]) {
-    answers::counted(out, reports::count(file));
+fn lend_words<R: Read, W: Write, F: FnOnce(&mut Wire<R, W>, &mut [u16]) -> Answer>(
+    wire: &mut Wire<R, W>,
+    call: F,
+)
+    requires { F.IsAlwaysCallable call }
+{
+    let mut room: [u16; LENT_WORDS] = room::filled(u16::FILLER);
+    lend(wire, &mut room, call);
 }
 
-// ---- calls that are lent bytes
-
-fn lend_bytes<R: Read, W: Write>(
-    input: &mut R,
-    out: &mut W,
-    call: u16,
-    terms: &[u16],
-    scan: &[u16],
-    bytes: &[u8],
-) {
-    let mut lent = room::lent_bytes();
-    let n = input::bytes_to_lend(input, &lent);
-    show_bytes(out, call, terms, scan, bytes, &mut lent[..n]);
+fn lend_residues<R: Read, W: Write, F: FnOnce(&mut Wire<R, W>, &mut [i32]) -> Answer>(
+    wire: &mut Wire<R, W>,
+    call: F,
+)
+    requires { F.IsAlwaysCallable call }
+{
+    let mut room: [i32; LENT_WORDS] = room::filled(i32::FILLER);
+    lend(wire, &mut room, call);
 }
 
-fn show_bytes<W: Write>(
-    out: &mut W,
-    call: u16,
-    terms: &[u16],
-    scan: &[u16],
-    bytes: &[u8],
-    lent: &mut [u8],
-) {
-    answers::answered(out, fill_bytes(call, terms, scan, bytes, lent));
-    output::bytes(out, lent);
-}
-
-fn fill_bytes(call: u16, terms: &[u16], scan: &[u16], bytes: &[u8], lent: &mut [u8]) -> Answer {
-    match call {
-        6 => tables::form_to_table(terms, lent),
-        10 => files::write(terms, scan, lent),
-        _ => lines::line(bytes, lent),
-    }
-}
-
-// ---- calls that are lent samples or terms
-
-fn lend_words<R: Read, W: Write>(
-    input: &mut R,
-    out: &mut W,
-    call: u16,
-    terms: &[u16],
-    scan: &[u16],
-    bytes: &[u8],
-) {
-    let mut lent = room::lent_words();
-    let n = input::words_to_lend(input, &lent);
-    show_words(input, out, call, terms, scan, bytes, &mut lent[..n]);
-}
-
-fn show_words<R: Read, W: Write>(
-    input: &mut R,
-    out: &mut W,
-    call: u16,
-    terms: &[u16],
-    scan: &[u16],
-    bytes: &[u8],
-    lent: &mut [u16],
-) {
-    answers::answered(out, fill_words(input, call, terms, scan, bytes, lent));
-    output::words(out, lent);
-}
-
-fn fill_words<R: Read>(
-    input: &mut R,
-    call: u16,
-    terms: &[u16],
-    scan: &[u16],
-    bytes: &[u8],
-    lent: &mut [u16],
-) -> Answer {
-    match call {
-        2 => scans::clean(terms, scan, lent),
-        8 => runner::run(bytes, scan, lent),
-        _ => fill_terms(input, call, bytes, lent),
-    }
-}
-
-fn fill_terms<R: Read>(input: &mut R, call: u16, bytes: &[u8], lent: &mut [u16]) -> Answer {
-    match call {
-        5 => tables::table_to_form(bytes, lent),
-        7 => presets::preset(input::number(input), lent),
-        _ => compile(bytes, lent),
-    }
-}
-
-fn compile(recipe: &[u8], lent: &mut [u16]) -> Answer {
-    compiler::compile(recipe, lent)
+fn lend<T: Lent, R: Read, W: Write, F: FnOnce(&mut Wire<R, W>, &mut [T]) -> Answer>(
+    wire: &mut Wire<R, W>,
+    room: &mut [T],
+    call: F,
+)
+    requires { F.IsAlwaysCallable call }
+{
+    let lent = wire.lend(room);
+    let answer = call(wire, lent);
+    wire.answer(answers::done(answer));
+    wire.elements(lent);
 }
 
 // ---- reading a file, which is lent samples and terms
 
-fn lend_samples_and_terms<R: Read, W: Write>(input: &mut R, out: &mut W, file: &[u8]) {
-    let mut samples = room::lent_words();
-    let s = input::words_to_lend(input, &samples);
-    let mut terms = room::lent_words();
-    let t = input::words_to_lend(input, &terms);
-    show_samples_and_terms(out, file, &mut samples[..s], &mut terms[..t]);
-}
-
-fn show_samples_and_terms<W: Write>(
-    out: &mut W,
-    file: &[u8],
-    samples: &mut [u16],
-    terms: &mut [u16],
-) {
-    answers::read(out, files::read(file, samples, terms));
-    output::words(out, samples);
-    output::words(out, terms);
-}
-
-// ---- the residue
-
-fn lend_residues<R: Read, W: Write>(input: &mut R, out: &mut W, terms: &[u16], scan: &[u16]) {
-    let mut lent = room::lent_residues();
-    let n = input::residues_to_lend(input, &lent);
-    show_residues(out, terms, scan, &mut lent[..n]);
-}
-
-fn show_residues<W: Write>(out: &mut W, terms: &[u16], scan: &[u16], lent: &mut [i32]) {
-    answers::answered(out, scans::residue(terms, scan, lent));
-    output::residues(out, lent);
+fn lend_samples_and_terms<R: Read, W: Write>(wire: &mut Wire<R, W>, file: &[u8]) {
+    let mut samples: [u16; LENT_WORDS] = room::filled(u16::FILLER);
+    let mut terms: [u16; LENT_WORDS] = room::filled(u16::FILLER);
+    let samples = wire.lend(&mut samples);
+    let terms = wire.lend(&mut terms);
+    wire.answer(answers::read(files::read(file, samples, terms)));
+    wire.elements(samples);
+    wire.elements(terms);
 }

@@ -9,17 +9,18 @@ mod answers;
 mod calls;
 mod records;
 
-use wire::room;
+use records::Room;
+use wire::Wire;
+use wire::room::{self, BYTES, WORDS};
 
 fn main(rt: HostRuntime) {
-    let mut terms = room::words();
-    let mut scan = room::words();
-    let mut bytes = room::bytes();
-    records::make_all(
-        &mut rt.stdin(),
-        &mut rt.stdout(),
-        &mut terms,
-        &mut scan,
-        &mut bytes,
-    );
+    let mut terms: [u16; WORDS] = room::filled(0);
+    let mut scan: [u16; WORDS] = room::filled(0);
+    let mut bytes: [u8; BYTES] = room::filled(0);
+    let mut room = Room {
+        terms: &mut terms,
+        scan: &mut scan,
+        bytes: &mut bytes,
+    };
+    Wire::new(rt.stdin(), rt.stdout()).make_all(&mut room);
 }

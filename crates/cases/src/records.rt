@@ -1,52 +1,43 @@
-// Records of standard input, each with the call that it asks for.
+// A record of standard input, and the arrays that it is read into.
 //
 // A record has every field that any call takes, so that all are read in one way. A call uses those that
 // it takes; the others are empty.
-use crate::calls;
+use crate::calls::{self, Call};
 use std::io::{Read, Write};
-use wire::{input, output};
+use wire::{Calls, Wire};
 
-const MOST_CALLS: u32 = 1000000;
-
-// Makes calls as long as there are any. A proved loop has to end, and nothing says that the input
-// does: calls are counted down from more than any stream has.
-pub fn make_all<R: Read, W: Write>(
-    input: &mut R,
-    out: &mut W,
-    terms: &mut [u16],
-    scan: &mut [u16],
-    bytes: &mut [u8],
-) {
-    for _ in 0..MOST_CALLS {
-        if !make_next(input, out, terms, scan, bytes) {
-            break;
-        }
-    }
+// What a record gives its call to read.
+#[derive(Clone, Copy)]
+pub struct Record<'a> {
+    pub terms: &'a [u16],
+    pub scan: &'a [u16],
+    pub bytes: &'a [u8],
 }
 
-// Reads the next record by way of the three slices, and makes its call. Answers false where there is none.
-fn make_next<R: Read, W: Write>(
-    input: &mut R,
-    out: &mut W,
-    terms: &mut [u16],
-    scan: &mut [u16],
-    bytes: &mut [u8],
-) -> bool {
-    let call = input::two_bytes(input);
-    if call == 0 {
-        return false;
+// Room for a record.
+#[derive(Drop)]
+pub struct Room<'a> {
+    pub terms: &'a mut [u16],
+    pub scan: &'a mut [u16],
+    pub bytes: &'a mut [u8],
+}
+
+impl Calls for Room<'_> {
+    type Call = Call;
+
+    fn make<R: Read, W: Write>(&mut self, wire: &mut Wire<R, W>, call: Call) {
+        print_name(wire, self.bytes);
+        let record = Record {
+            terms: wire.slice(self.terms),
+            scan: wire.slice(self.scan),
+            bytes: wire.slice(self.bytes),
+        };
+        calls::make(wire, call, record);
     }
-    print_name(input, out, bytes);
-    let t = input::words(input, terms);
-    let s = input::words(input, scan);
-    let b = input::bytes(input, bytes);
-    calls::make(input, out, call, &terms[..t], &scan[..s], &bytes[..b]);
-    output::end_of_line(out);
-    true
 }
 
 // A line begins with the name that the record has for the call.
-fn print_name<R: Read, W: Write>(input: &mut R, out: &mut W, room: &mut [u8]) {
-    let n = input::bytes(input, room);
-    output::text(out, &room[..n]);
+fn print_name<R: Read, W: Write>(wire: &mut Wire<R, W>, room: &mut [u8]) {
+    let name = wire.slice(room);
+    wire.print(name);
 }

@@ -1,58 +1,90 @@
-// The call that a record asks for, by its number.
+// The call that a record asks for.
 //
 // Bytes are lent with a filler everywhere, as many as stand next in the record. They are printed behind the
 // answer, as the call left them, and then the line that was written.
+use crate::records::Record;
 use crate::{answers, pieces};
+use lines::NUMBERS;
 use refusals::{Answer, Refusal};
 use reports::{CountAnswer, Counts};
 use std::io::{Read, Write};
 use totals::{Outcome, Totals};
-use wire::{input, output, room};
+use wire::Wire;
+use wire::room::{self, LENT_BYTES, Lent};
 
-pub fn make<R: Read, W: Write>(input: &mut R, out: &mut W, call: u16, text: &[u8], sizes: &[u16]) {
+#[derive(Clone, Copy)]
+pub enum Call {
+    CheckList,
+    Judge,
+    LineEnd,
+    OutcomeLine,
+    RefusedLine,
+    TotalsLine,
+    Add,
+}
+
+// The numbers that second/README.md gives the calls. One that no call has stands for `totals_line`.
+impl From<u16> for Call {
+    fn from(number: u16) -> Call {
+        match number {
+            1 => Call::CheckList,
+            2 => Call::Judge,
+            3 => Call::LineEnd,
+            4 => Call::OutcomeLine,
+            5 => Call::RefusedLine,
+            7 => Call::Add,
+            _ => Call::TotalsLine,
+        }
+    }
+}
+
+impl Call {
+    // A line begins with it.
+    fn name(self) -> &'static [u8] {
+        match self {
+            Call::CheckList => b"check_list",
+            Call::Judge => b"judge",
+            Call::LineEnd => b"line_end",
+            Call::OutcomeLine => b"outcome_line",
+            Call::RefusedLine => b"refused_line",
+            Call::TotalsLine => b"totals_line",
+            Call::Add => b"add",
+        }
+    }
+}
+
+// Makes the call, and prints its name, its answer and what it was lent.
+pub fn make<R: Read, W: Write>(wire: &mut Wire<R, W>, call: Call, record: Record<'_>) {
+    wire.print(call.name());
     match call {
-        1 => check_list(out, text),
-        2 => judge(out, text, sizes),
-        3 => line_end(input, out, text),
-        7 => add(input, out),
-        _ => lend_line(input, out, call),
+        Call::CheckList => check_list(wire, record.text),
+        Call::Judge => pieces::judge(wire, record),
+        Call::LineEnd => line_end(wire, record.text),
+        Call::OutcomeLine => lend(wire, |wire, lent| {
+            lines::outcome_line(read_outcome(wire), lent)
+        }),
+        Call::RefusedLine => lend(wire, |wire, lent| {
+            lines::refused_line(read_refusal(wire), lent)
+        }),
+        Call::TotalsLine => lend(wire, |wire, lent| {
+            lines::totals_line(read_totals(wire), lent)
+        }),
+        Call::Add => add(wire),
     }
 }
 
 // ---- lists
 
-fn check_list<W: Write>(out: &mut W, text: &[u8]) {
-    output::text(out, b"check_list");
-    answers::answered(out, lists::check(text));
+fn check_list<R, W: Write>(wire: &mut Wire<R, W>, text: &[u8]) {
+    wire.answer(answers::done(lists::check(text)));
 }
 
-fn judge<W: Write>(out: &mut W, text: &[u8], sizes: &[u16]) {
-    output::text(out, b"judge");
-    pieces::judge(out, text, sizes);
-}
-
-fn line_end<R: Read, W: Write>(input: &mut R, out: &mut W, text: &[u8]) {
-    output::text(out, b"line_end");
-    let at = input::number(input) as usize;
-    answers::accepted(out, lists::line_end(text, at) as u64);
+fn line_end<R: Read, W: Write>(wire: &mut Wire<R, W>, text: &[u8]) {
+    let at = wire.number() as usize;
+    wire.answer(Ok([lists::line_end(text, at) as u64]));
 }
 
 // ---- outcomes and totals
-
-fn read_counts<R: Read>(input: &mut R) -> Counts {
-    let samples = input::number(input);
-    let changed = input::number(input);
-    let spikes = input::number(input);
-    let up = input::number(input);
-    let down = input::number(input);
-    Counts {
-        samples,
-        changed,
-        spikes,
-        up,
-        down,
-    }
-}
 
 // A refusal's number has one byte.
 fn refusal_of(number: u64, place: u64) -> Refusal {
@@ -62,34 +94,46 @@ fn refusal_of(number: u64, place: u64) -> Refusal {
     }
 }
 
-fn read_refusal<R: Read>(input: &mut R) -> Refusal {
-    let number = input::number(input);
-    let place = input::number(input);
+fn read_refusal<R: Read, W>(wire: &mut Wire<R, W>) -> Refusal {
+    let [number, place] = wire.numbers::<2>();
     refusal_of(number, place)
 }
 
 // An outcome is its kind and five numbers.
-fn read_outcome<R: Read>(input: &mut R) -> Outcome {
-    let kind = input::number(input);
-    let counts = read_counts(input);
+fn read_outcome<R: Read, W>(wire: &mut Wire<R, W>) -> Outcome {
+    let [kind, samples, changed, spikes, up, down] = wire.numbers::<6>();
     match kind {
         0 => Outcome::Unopened,
-        1 => Outcome::Opened(CountAnswer::Counted(counts)),
-        _ => Outcome::Opened(CountAnswer::Refused(refusal_of(counts.samples, counts.changed))),
+        1 => Outcome::Opened(CountAnswer::Counted(Counts {
+            samples,
+            changed,
+            spikes,
+            up,
+            down,
+        })),
+        _ => Outcome::Opened(CountAnswer::Refused(refusal_of(samples, changed))),
     }
 }
 
-fn read_totals<R: Read>(input: &mut R) -> Totals {
-    let cleaned = input::number(input);
-    let unopened = input::number(input);
-    let seven = input::number(input);
-    let eight = input::number(input);
-    let nine = input::number(input);
-    let fifteen = input::number(input);
-    let sixteen = input::number(input);
-    let seventeen = input::number(input);
-    let eighteen = input::number(input);
-    let counts = read_counts(input);
+// Totals are their numbers, in the order of the sheet's last line.
+fn read_totals<R: Read, W>(wire: &mut Wire<R, W>) -> Totals {
+    let numbers: [u64; NUMBERS] = wire.numbers();
+    let [
+        cleaned,
+        unopened,
+        seven,
+        eight,
+        nine,
+        fifteen,
+        sixteen,
+        seventeen,
+        eighteen,
+        samples,
+        changed,
+        spikes,
+        up,
+        down,
+    ] = numbers;
     Totals {
         cleaned,
         unopened,
@@ -100,78 +144,46 @@ fn read_totals<R: Read>(input: &mut R) -> Totals {
         sixteen,
         seventeen,
         eighteen,
-        samples: counts.samples,
-        changed: counts.changed,
-        spikes: counts.spikes,
-        up: counts.up,
-        down: counts.down,
+        samples,
+        changed,
+        spikes,
+        up,
+        down,
     }
 }
 
-// Adds so many outcomes, one after another.
-fn add_all<R: Read>(input: &mut R, before: Totals, outcomes: u64) -> Totals {
-    let mut totals = before;
-    for _ in 0..outcomes {
-        totals = totals::add(totals, read_outcome(input));
+// Adds so many outcomes, one after another. Totals are never refused.
+fn add<R: Read, W: Write>(wire: &mut Wire<R, W>) {
+    let mut totals = read_totals(wire);
+    for _ in 0..wire.number() {
+        totals = totals::add(totals, read_outcome(wire));
     }
-    totals
-}
-
-fn add<R: Read, W: Write>(input: &mut R, out: &mut W) {
-    output::text(out, b"add");
-    let before = read_totals(input);
-    let outcomes = input::number(input);
-    answers::summed(out, add_all(input, before, outcomes));
+    wire.answer(Ok(lines::in_order(totals)));
 }
 
 // ---- lines
 
-fn lend_line<R: Read, W: Write>(input: &mut R, out: &mut W, call: u16) {
-    let mut lent = room::lent_bytes();
-    let n = input::bytes_to_lend(input, &lent);
-    show_line(input, out, call, &mut lent[..n]);
-}
-
-fn show_line<R: Read, W: Write>(input: &mut R, out: &mut W, call: u16, lent: &mut [u8]) {
-    let answer = write_line(input, out, call, lent);
-    answers::answered(out, answer);
-    output::bytes(out, lent);
+fn lend<R: Read, W: Write, F: FnOnce(&mut Wire<R, W>, &mut [u8]) -> Answer>(
+    wire: &mut Wire<R, W>,
+    call: F,
+)
+    requires { F.IsAlwaysCallable call }
+{
+    let mut room: [u8; LENT_BYTES] = room::filled(u8::FILLER);
+    let lent = wire.lend(&mut room);
+    let answer = call(wire, lent);
+    wire.answer(answers::done(answer));
+    wire.elements(lent);
     if let Answer::Done(n) = answer {
-        show_text(out, lent, n);
+        print_line(wire, lent, n);
     }
 }
 
-fn write_line<R: Read, W: Write>(input: &mut R, out: &mut W, call: u16, lent: &mut [u8]) -> Answer {
-    match call {
-        4 => outcome_line(input, out, lent),
-        5 => refused_line(input, out, lent),
-        _ => totals_line(input, out, lent),
-    }
-}
-
-fn outcome_line<R: Read, W: Write>(input: &mut R, out: &mut W, lent: &mut [u8]) -> Answer {
-    output::text(out, b"outcome_line");
-    lines::outcome_line(read_outcome(input), lent)
-}
-
-fn refused_line<R: Read, W: Write>(input: &mut R, out: &mut W, lent: &mut [u8]) -> Answer {
-    output::text(out, b"refused_line");
-    lines::refused_line(read_refusal(input), lent)
-}
-
-fn totals_line<R: Read, W: Write>(input: &mut R, out: &mut W, lent: &mut [u8]) -> Answer {
-    output::text(out, b"totals_line");
-    lines::totals_line(read_totals(input), lent)
-}
-
-// A line without its last byte, which is the line feed.
-fn show_text<W: Write>(out: &mut W, lent: &[u8], n: usize) {
-    if n == 0 {
-        return;
-    }
-    let last = n - 1;
-    if last <= lent.len() {
-        output::text(out, b" ");
-        output::text(out, &lent[0..last]);
+// A line of so many bytes without its last one, which is the line feed.
+fn print_line<R, W: Write>(wire: &mut Wire<R, W>, lent: &[u8], n: usize) {
+    let line = n.checked_sub(1).and_then(|last| lent.get(..last));
+    if let Some(line) = line {
+        wire.print(b" ");
+        wire.print(line);
     }
 }

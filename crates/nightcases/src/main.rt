@@ -10,10 +10,16 @@ mod calls;
 mod pieces;
 mod records;
 
-use wire::room;
+use records::Room;
+use wire::Wire;
+use wire::room::{self, BYTES, WORDS};
 
 fn main(rt: HostRuntime) {
-    let mut text = room::bytes();
-    let mut sizes = room::words();
-    records::make_all(&mut rt.stdin(), &mut rt.stdout(), &mut text, &mut sizes);
+    let mut text: [u8; BYTES] = room::filled(0);
+    let mut sizes: [u16; WORDS] = room::filled(0);
+    let mut room = Room {
+        text: &mut text,
+        sizes: &mut sizes,
+    };
+    Wire::new(rt.stdin(), rt.stdout()).make_all(&mut room);
 }

@@ -1,37 +1,33 @@
-// Records of standard input, each with the call that it asks for.
+// A record of standard input, and the arrays that it is read into.
 //
 // A record has every field that any call takes, so that all are read in one way. A call uses those that
 // it takes; the others are empty.
-use crate::calls;
+use crate::calls::{self, Call};
 use std::io::{Read, Write};
-use wire::{input, output};
+use wire::{Calls, Wire};
 
-const MOST_CALLS: u32 = 1000000;
-
-// Makes calls as long as there are any. A proved loop has to end, and nothing says that the input
-// does: calls are counted down from more than any stream has.
-pub fn make_all<R: Read, W: Write>(input: &mut R, out: &mut W, text: &mut [u8], sizes: &mut [u16]) {
-    for _ in 0..MOST_CALLS {
-        if !make_next(input, out, text, sizes) {
-            break;
-        }
-    }
+// What a record gives its call to read.
+#[derive(Clone, Copy)]
+pub struct Record<'a> {
+    pub text: &'a [u8],
+    pub sizes: &'a [u16],
 }
 
-// Reads the next record by way of the two slices, and makes its call. Answers false where there is none.
-fn make_next<R: Read, W: Write>(
-    input: &mut R,
-    out: &mut W,
-    text: &mut [u8],
-    sizes: &mut [u16],
-) -> bool {
-    let call = input::two_bytes(input);
-    if call == 0 {
-        return false;
+// Room for a record.
+#[derive(Drop)]
+pub struct Room<'a> {
+    pub text: &'a mut [u8],
+    pub sizes: &'a mut [u16],
+}
+
+impl Calls for Room<'_> {
+    type Call = Call;
+
+    fn make<R: Read, W: Write>(&mut self, wire: &mut Wire<R, W>, call: Call) {
+        let record = Record {
+            text: wire.text(self.text),
+            sizes: wire.slice(self.sizes),
+        };
+        calls::make(wire, call, record);
     }
-    let t = input::text(input, text);
-    let s = input::words(input, sizes);
-    calls::make(input, out, call, &text[..t], &sizes[..s]);
-    output::end_of_line(out);
-    true
 }

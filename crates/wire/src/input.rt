@@ -1,115 +1,114 @@
 // An input, taken apart as it is read.
 //
-// A byte past its end counts as 0, and a length over the room there is counts as that room. Neither
+// A number past its end counts as 0, and a length over the room there is counts as that room. Neither
 // comes up in a stream of calls.
-ghost use Rattle.std.specs.Prelude.{◌≤◌};
-ghost use Rattle.wire.specs.Counts.{Counts};
+ghost use Rattle.std.specs.Prelude.{◌≤◌, length};
 
+use crate::Wire;
 use std::io::Read;
 
-const TWO_TO_16: u32 = 1 << 16;
+// A number that stands in a record as one of many.
+pub trait Element: Sized {
+    // Puts the next numbers into the slots.
+    fn read_all<R: Read>(input: &mut R, slots: &mut [Self]);
+}
 
-const TWO_TO_32: u64 = 1 << 32;
+impl Element for u8 {
+    fn read_all<R: Read>(input: &mut R, slots: &mut [u8]) {
+        fill(input, slots);
+    }
+}
 
-// Fills the slice, as far as the input goes and no read fails. What is past that stays as it was.
-fn fill<R: Read>(input: &mut R, bytes: &mut [u8]) {
-    let mut done = 0;
-    while done < bytes.len() {
-        match input.read(&mut bytes[done..]) {
-            Ok(more) if more > 0 => done += more,
-            _ => return,
+impl Element for u16 {
+    fn read_all<R: Read>(input: &mut R, slots: &mut [u16]) {
+        for slot in slots {
+            *slot = u16::from_le_bytes(next(input));
         }
     }
 }
 
-// The next number of two bytes, low byte first.
-pub fn two_bytes<R: Read>(input: &mut R) -> u16 {
-    let mut bytes = [0u8; 2];
+// Fills the slice, as far as the input goes and no read fails. What is past that stays as it was.
+fn fill<R: Read>(input: &mut R, bytes: &mut [u8]) {
+    let _ = input.read_exact(bytes);
+}
+
+// The next bytes, 0 past the end.
+fn next<R: Read, const N: usize>(input: &mut R) -> [u8; N] {
+    let mut bytes = [0; N];
     fill(input, &mut bytes);
-    bits::word(bytes[0], bytes[1])
+    bytes
 }
 
-// The next number of four bytes, low byte first.
-fn four_bytes<R: Read>(input: &mut R) -> u32 {
-    let low = two_bytes(input);
-    let high = two_bytes(input);
-    low as u32 + high as u32 * TWO_TO_16
-}
-
-// The next number of eight bytes, low byte first.
-pub fn number<R: Read>(input: &mut R) -> u64 {
-    let low = four_bytes(input);
-    let high = four_bytes(input);
-    low as u64 + high as u64 * TWO_TO_32
-}
-
-// The next length, at most what there is room for.
-fn length<R: Read>(input: &mut R, room: usize) -> usize
-    ensures { result ≤ room }
-{
-    let n = four_bytes(input) as usize;
-    if n < room { n } else { room }
-}
-
-// How many elements of `room` the next argument asks to be lent.
-pub fn bytes_to_lend<R: Read>(input: &mut R, room: &[u8]) -> usize
-    ensures { Counts result room.now }
-{
-    length(input, room.len())
-}
-
-pub fn words_to_lend<R: Read>(input: &mut R, room: &[u16]) -> usize
-    ensures { Counts result room.now }
-{
-    length(input, room.len())
-}
-
-pub fn residues_to_lend<R: Read>(input: &mut R, room: &[i32]) -> usize
-    ensures { Counts result room.now }
-{
-    length(input, room.len())
-}
-
-// Puts the next slice of bytes at the start of `room`, and answers how many there are.
-pub fn bytes<R: Read>(input: &mut R, room: &mut [u8]) -> usize
-    ensures { Counts result room.new }
-{
-    let n = bytes_to_lend(input, room);
-    fill(input, &mut room[..n]);
-    n
-}
-
-// Puts the next slice of numbers of two bytes at the start of `room`, and answers how many there are.
-pub fn words<R: Read>(input: &mut R, room: &mut [u16]) -> usize
-    ensures { Counts result room.new }
-{
-    let n = length(input, room.len());
-    for i in 0..n {
-        room[i] = two_bytes(input);
+// Every number stands low byte first.
+impl<R: Read, W> Wire<R, W> {
+    // The next number of two bytes.
+    pub(crate) fn two_bytes(&mut self) -> u16 {
+        u16::from_le_bytes(next(&mut self.input))
     }
-    n
-}
 
-// Puts the next run at the start of `room`, a unit over and over, and answers how many bytes it has.
-fn run<R: Read>(input: &mut R, room: &mut [u8]) -> usize
-    ensures { Counts result room.new }
-{
-    let unit = bytes(input, room);
-    let n = bytes_to_lend(input, room);
-    for i in unit..n {
-        room[i] = room[i - unit];
+    // The next number of four bytes.
+    fn four_bytes(&mut self) -> u32 {
+        u32::from_le_bytes(next(&mut self.input))
     }
-    n
-}
 
-// Puts the next text, run after run, at the start of `room`, and answers how many bytes it has.
-pub fn text<R: Read>(input: &mut R, room: &mut [u8]) -> usize
-    ensures { Counts result room.new }
-{
-    let runs = four_bytes(input);
-    let mut n = 0;
-    for _ in 0..runs {
-        n += run(input, &mut room[n..]);
+    // The next number of eight bytes.
+    pub fn number(&mut self) -> u64 {
+        u64::from_le_bytes(next(&mut self.input))
     }
-    n
+
+    // The next numbers of eight bytes.
+    pub fn numbers<const N: usize>(&mut self) -> [u64; N] {
+        let mut numbers = [0; N];
+        for number in &mut numbers {
+            *number = self.number();
+        }
+        numbers
+    }
+
+    // The next length, at most what there is room for.
+    fn length(&mut self, room: usize) -> usize
+        ensures { result ≤ room }
+    {
+        room.min(self.four_bytes() as usize)
+    }
+
+    // The start of the room, as long as the next argument asks for.
+    pub fn lend<'a, T>(&mut self, room: &'a mut [T]) -> &'a mut [T]
+        ensures { length result.now ≤ length room.old }
+    {
+        let n = self.length(room.len());
+        &mut room[..n]
+    }
+
+    // The next slice, which is put at the start of the room.
+    pub fn slice<'a, T: Element>(&mut self, room: &'a mut [T]) -> &'a [T]
+        ensures { length result.now ≤ length room.old }
+    {
+        let slots = self.lend(room);
+        T::read_all(&mut self.input, slots);
+        slots
+    }
+
+    // The next run, which is put at the start of the room: a unit over and over.
+    fn run<'a>(&mut self, room: &'a mut [u8]) -> &'a [u8]
+        ensures { length result.now ≤ length room.old }
+    {
+        let unit = self.slice(room).len();
+        let run = self.lend(room);
+        for i in unit..run.len() {
+            run[i] = run[i - unit];
+        }
+        run
+    }
+
+    // The next text, which is put at the start of the room, run after run.
+    pub fn text<'a>(&mut self, room: &'a mut [u8]) -> &'a [u8]
+        ensures { length result.now ≤ length room.old }
+    {
+        let mut n = 0;
+        for _ in 0..self.four_bytes() {
+            n += self.run(&mut room[n..]).len();
+        }
+        &room[..n]
+    }
 }

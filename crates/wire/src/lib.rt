@@ -4,6 +4,23 @@
 // function has a `requires`. Contracts say how long a slice is, and nothing of what is read and written.
 #![tactic(auto)]
 
-pub mod input;
-pub mod output;
+mod input;
+mod output;
+mod records;
 pub mod room;
+
+pub use input::Element;
+pub use records::Calls;
+
+// What calls are read from, and what their lines are printed on.
+#[derive(Drop)]
+pub struct Wire<R, W> {
+    input: R,
+    out: W,
+}
+
+impl<R, W> Wire<R, W> {
+    pub fn new(input: R, out: W) -> Wire<R, W> {
+        Wire { input, out }
+    }
+}

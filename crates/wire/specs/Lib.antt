@@ -1,2 +1,0 @@
--- What the contracts of `wire` cite.
-pub mod Counts
