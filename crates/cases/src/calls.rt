@@ -4,7 +4,7 @@
 // behind the answer, as the call left it.
 use crate::answers;
 use crate::records::Record;
-use refusals::Answer;
+use refusals::Refusal;
 use std::io::{Read, Write};
 use wire::Wire;
 use wire::room::{self, LENT_BYTES, LENT_WORDS, Lent};
@@ -75,7 +75,7 @@ pub fn make<R: Read, W: Write>(wire: &mut Wire<R, W>, call: Call, record: Record
 // Three functions make the room: tried as one over the type and the length, and the proof did not close. A bound on N times the size
 // of a T is open there, and no clause can name a type parameter's size.
 
-fn lend_bytes<R: Read, W: Write, F: FnOnce(&mut Wire<R, W>, &mut [u8]) -> Answer>(
+fn lend_bytes<R: Read, W: Write, F: FnOnce(&mut Wire<R, W>, &mut [u8]) -> Result<usize, Refusal>>(
     wire: &mut Wire<R, W>,
     call: F,
 )
@@ -85,7 +85,7 @@ fn lend_bytes<R: Read, W: Write, F: FnOnce(&mut Wire<R, W>, &mut [u8]) -> Answer
     lend(wire, &mut room, call);
 }
 
-fn lend_words<R: Read, W: Write, F: FnOnce(&mut Wire<R, W>, &mut [u16]) -> Answer>(
+fn lend_words<R: Read, W: Write, F: FnOnce(&mut Wire<R, W>, &mut [u16]) -> Result<usize, Refusal>>(
     wire: &mut Wire<R, W>,
     call: F,
 )
@@ -95,7 +95,7 @@ fn lend_words<R: Read, W: Write, F: FnOnce(&mut Wire<R, W>, &mut [u16]) -> Answe
     lend(wire, &mut room, call);
 }
 
-fn lend_residues<R: Read, W: Write, F: FnOnce(&mut Wire<R, W>, &mut [i32]) -> Answer>(
+fn lend_residues<R: Read, W: Write, F: FnOnce(&mut Wire<R, W>, &mut [i32]) -> Result<usize, Refusal>>(
     wire: &mut Wire<R, W>,
     call: F,
 )
@@ -105,7 +105,7 @@ fn lend_residues<R: Read, W: Write, F: FnOnce(&mut Wire<R, W>, &mut [i32]) -> An
     lend(wire, &mut room, call);
 }
 
-fn lend<T: Lent, R: Read, W: Write, F: FnOnce(&mut Wire<R, W>, &mut [T]) -> Answer>(
+fn lend<T: Lent, R: Read, W: Write, F: FnOnce(&mut Wire<R, W>, &mut [T]) -> Result<usize, Refusal>>(
     wire: &mut Wire<R, W>,
     room: &mut [T],
     call: F,

@@ -1,15 +1,17 @@
 // What a call answered, as its line has it: its values, or the number and the place of a refusal.
-use refusals::{Answer, Checked};
+use refusals::{Notice, Refusal};
+
+fn told(refusal: Refusal) -> (u8, usize) {
+    let Notice { number, place } = Notice::from(refusal);
+    (number, place)
+}
 
 // A call whose answer is one value.
-pub fn done(answer: Answer) -> Result<[u64; 1], (u8, usize)> {
-    match answer {
-        Answer::Done(n) => Ok([n as u64]),
-        Answer::Refused(refusal) => Err((refusal.number, refusal.place)),
-    }
+pub fn done(answer: Result<usize, Refusal>) -> Result<[u64; 1], (u8, usize)> {
+    answer.map(|n| [n as u64]).map_err(told)
 }
 
 // A verdict, which is 0 and 0 where nothing is refused.
-pub fn judged(verdict: Checked) -> Result<[u64; 1], (u8, usize)> {
-    done(refusals::answer_with(verdict, 0))
+pub fn judged(verdict: Result<(), Refusal>) -> Result<[u64; 1], (u8, usize)> {
+    done(verdict.map(|_| 0))
 }

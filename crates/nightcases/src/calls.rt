@@ -5,8 +5,8 @@
 use crate::records::Record;
 use crate::{answers, pieces};
 use lines::NUMBERS;
-use refusals::{Answer, Refusal};
-use reports::{CountAnswer, Counts};
+use refusals::{Notice, Refusal};
+use reports::Counts;
 use std::io::{Read, Write};
 use totals::{Outcome, Totals};
 use wire::Wire;
@@ -87,16 +87,16 @@ fn line_end<R: Read, W: Write>(wire: &mut Wire<R, W>, text: &[u8]) {
 // ---- outcomes and totals
 
 // A refusal's number has one byte.
-fn refusal_of(number: u64, place: u64) -> Refusal {
-    Refusal {
+fn notice_of(number: u64, place: u64) -> Notice {
+    Notice {
         number: (number % 256) as u8,
         place: place as usize,
     }
 }
 
-fn read_refusal<R: Read, W>(wire: &mut Wire<R, W>) -> Refusal {
+fn read_refusal<R: Read, W>(wire: &mut Wire<R, W>) -> Notice {
     let [number, place] = wire.numbers::<2>();
-    refusal_of(number, place)
+    notice_of(number, place)
 }
 
 // An outcome is its kind and five numbers.
@@ -104,14 +104,14 @@ fn read_outcome<R: Read, W>(wire: &mut Wire<R, W>) -> Outcome {
     let [kind, samples, changed, spikes, up, down] = wire.numbers::<6>();
     match kind {
         0 => Outcome::Unopened,
-        1 => Outcome::Opened(CountAnswer::Counted(Counts {
+        1 => Outcome::Opened(Ok(Counts {
             samples,
             changed,
             spikes,
             up,
             down,
         })),
-        _ => Outcome::Opened(CountAnswer::Refused(refusal_of(samples, changed))),
+        _ => Outcome::Opened(Err(notice_of(samples, changed))),
     }
 }
 
@@ -163,7 +163,7 @@ fn add<R: Read, W: Write>(wire: &mut Wire<R, W>) {
 
 // ---- lines
 
-fn lend<R: Read, W: Write, F: FnOnce(&mut Wire<R, W>, &mut [u8]) -> Answer>(
+fn lend<R: Read, W: Write, F: FnOnce(&mut Wire<R, W>, &mut [u8]) -> Result<usize, Refusal>>(
     wire: &mut Wire<R, W>,
     call: F,
 )
@@ -174,7 +174,7 @@ fn lend<R: Read, W: Write, F: FnOnce(&mut Wire<R, W>, &mut [u8]) -> Answer>(
     let answer = call(wire, lent);
     wire.answer(answers::done(answer));
     wire.elements(lent);
-    if let Answer::Done(n) = answer {
+    if let Ok(n) = answer {
         print_line(wire, lent, n);
     }
 }
