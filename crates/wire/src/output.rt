@@ -2,6 +2,7 @@
 //
 // A failure to write is not told: the calls that follow are made all the same.
 use crate::Wire;
+use refusals::{Notice, Refusal};
 use std::io::Write;
 
 // More elements are given by their checksum.
@@ -28,7 +29,7 @@ impl<R, W: Write> Wire<R, W> {
     }
 
     // What a call answered: 0 and its values, or the number and the place of a refusal.
-    pub fn answer<const N: usize>(&mut self, answer: Result<[u64; N], (u8, usize)>) {
+    pub fn answer<const N: usize>(&mut self, answer: Result<[u64; N], Refusal>) {
         match answer {
             Ok(values) => {
                 self.word(0);
@@ -36,9 +37,10 @@ impl<R, W: Write> Wire<R, W> {
                     self.word(value);
                 }
             }
-            Err((number, place)) => {
-                self.word(number as u64);
-                self.word(place as u64);
+            Err(refusal) => {
+                let notice = Notice::from(refusal);
+                self.word(notice.number as u64);
+                self.word(notice.place as u64);
             }
         }
     }
