@@ -10,10 +10,9 @@ use mathlib.Core.Bool.{Bool}
 use mathlib.Core.List.{List, ◌++◌}
 use lib.Dec.{leb}
 use lib.IntN.{pos}
-use lib.ListN.{length, take, drop, length-append, length-drop}
-use lib.Seq.{length-take-le}
+use lib.ListN.{length, take}
 use borrow.Rule.Slice.PartMut.{mid_of, put_mid, Post-is}
-use Rattle.limits.specs.Limits.{reach, width, patterns, byte_bits, table_bytes, most_samples}
+use Rattle.limits.specs.Limits.{reach, width, patterns, byte_bits, most_samples}
 use Rattle.theory.specs.Lists.{bit, tab}
 use Rattle.theory.specs.Sets.{has}
 use Rattle.theory.specs.Orders.{counts}
@@ -35,7 +34,7 @@ use Rattle.recipes.proofs.Accepted.{plan_fits}
 use Rattle.rows.proofs.Parts.{mid_length}
 use Rattle.runner.specs.Run.{ran, recipe_run_checked, Run}
 use Rattle.runner.proofs.Pieces.{filled_piece}
-use Rattle.compiler.specs.Private.{byte_samples, batch_bytes, batch_samples, sample_of, sample_at, pattern_scan, middle_of, Batch}
+use Rattle.compiler.specs.Private.{pattern_scan, middle_of, Batch}
 use Rattle.compiler.proofs.Patterns.{showing_all, middle_truth}
 
 -- ---- an accepted run fills its slice
@@ -64,18 +63,6 @@ part_filled {f} {old} {new} {at} filled next g block more most rule e =
     (ap₂ (λ (b c : List ℕ). take at new ++ (b ++ c))
     (e ∙ ap (λ (m : ℕ). tab m g) long ∙ tab_cong (next - at) _ _ rule)
     (Post-is at next new (omega arith)))
-
--- the pattern from sample at on is shown
-pub pattern_filled : (first : ℕ) {old new : List ℕ} {at : ℕ} → Filled (sample_at first) old new at → at % width ≡ 0 → (block : List ℕ)
-    → at + width ≤ length old → block ≡ tab (length (mid_of at (at + width - at) new)) (sample_of (first + at / width))
-    → Filled (sample_at first) old (put_mid at (at + width - at) new block) (at + width)
-pattern_filled first {old} {new} {at} filled whole block most e =
-    part_filled filled (at + width) _ block (omega arith) most
-    (λ j l.
-    let v : at / width ≡ (at + j) / width = omega arith in
-    let k : j ≡ (at + j) % width = omega arith in
-    ap₂ (λ (q r : ℕ). sample_of (first + q) r) v k)
-    e
 
 -- ---- the table of a batch
 
@@ -112,27 +99,6 @@ batch_read r scan old bytes first ok shown out new a shows run read =
     ∙ table_cong (length bytes) _ _ (λ v l. read_truth first (length scan) r ok.fine v (omega arith) (omega arith))
 
 -- ---- the batches one after the other
-
--- the bytes from at to next are a batch, and the first samples of a scan and of a run show its patterns
-pub batch_fits : (r table scan out : List ℕ) (at next n : ℕ) → recipe_checked r ≡ Ok tt → at < next → next ≤ at + batch_bytes
-    → next ≤ table_bytes → length table ≡ table_bytes → length scan ≡ batch_samples → length out ≡ batch_samples → n ≡ (next - at) * byte_samples
-    → Batch r (take n scan) (take n out) (mid_of at (next - at) table) (byte_bits * at)
-batch_fits r table scan out at next n fine more near most whole scans outs size =
-    let bytes = mid_length at (next - at) table (omega arith) in
-    let shown = length-take-le n scan (omega arith) in
-    let lent = length-take-le n out (omega arith) in
-    record {
-      fine = fine;
-      nonempty = omega arith;
-      few = omega arith;
-      scanned = omega arith;
-      lent = omega arith;
-      tabled = omega arith;
-    }
-
--- a list whose first n elements were lent and are back is as long as it was
-pub batch_kept : (l : List ℕ) (n : ℕ) (new : List ℕ) → n ≤ length l → length new ≡ length (take n l) → length (new ++ drop n l) ≡ length l
-batch_kept l n new fits same = omega (arith, same, length-append new (drop n l), length-drop n l, length-take-le n l fits)
 
 -- the batch from byte at to byte next is written
 pub batch_filled : (f : ℕ → Bool) {old new : List ℕ} {at : ℕ} → Filled (byte_of f) old new at → (next : ℕ) (block : List ℕ) → at < next

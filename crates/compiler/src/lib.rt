@@ -6,18 +6,18 @@
 
 #![tactic(auto)]
 
-ghost use Rattle.std.specs.Prelude.{◌≡◌, ◌+◌, ◌*◌, ◌%◌, ◌<◌, ◌≤◌, min, length};
-ghost use Rattle.limits.specs.Limits.{width, patterns, byte_bits, table_bytes};
-ghost use Rattle.theory.specs.Lists.{tab};
+ghost use Rattle.std.specs.Prelude.{◌≡◌, Ok, ◌+◌, ◌*◌, ◌<◌, ◌≤◌, length};
+ghost use Rattle.limits.specs.Limits.{patterns, byte_bits, table_bytes};
 ghost use Rattle.theory.specs.Sets.{gather};
 ghost use Rattle.theory.specs.Tables.{table_of};
 ghost use Rattle.recipes.specs.Judge.{recipe_checked};
 ghost use Rattle.recipes.specs.Meaning.{truth_of};
-ghost use Rattle.compiler.specs.Private.{byte_samples, batch_bytes, sample_of, pattern_scan, middle_of, Batch};
+ghost use Rattle.compiler.specs.Private.{byte_samples, batch_bytes, sample_of, pattern_scan, middle_of};
 ghost use Rattle.compiler.specs.Compile.{Compile};
 
 use limits::{BYTE_BITS, REACH, TABLE_BYTES, WIDTH};
 use refusals::Refusal;
+use std::array;
 
 // The samples that show the patterns of a byte of the truth table.
 const BYTE_SAMPLES: usize = BYTE_BITS * WIDTH;
@@ -25,6 +25,8 @@ const BYTE_SAMPLES: usize = BYTE_BITS * WIDTH;
 const BATCH_BYTES: usize = rows::PIECE / BYTE_SAMPLES;
 
 const BATCH_SAMPLES: usize = BATCH_BYTES * BYTE_SAMPLES;
+// The last batch may have fewer bytes than the others.
+const BATCHES: usize = (TABLE_BYTES + BATCH_BYTES - 1) / BATCH_BYTES;
 
 // The sample that shows column k of the pattern v: 1 where the pattern has the position that stands there.
 fn show(v: usize, k: usize) -> u16
@@ -33,25 +35,13 @@ fn show(v: usize, k: usize) -> u16
     bits::bit(bits::has(v, windows::position(k))) as u16
 }
 
-// Fills a scan so that it shows the pattern v, column by column.
-fn show_pattern(scan: &mut [u16], v: usize)
-    ensures { scan.new ≡ tab (length scan.old) (sample_of v) }
-{
-    for k in 0..scan.len() {
-        scan[k] = show(v, k);
-    }
-}
-
-// Fills a scan so that it shows whole patterns from the first on, one after the other.
+// Fills a scan so that it shows the patterns from the first on, one after the other, column by column.
 fn show_patterns(scan: &mut [u16], first: usize)
-    requires { (first < patterns) × (length scan.old % width ≡ 0) }
+    requires { first < patterns }
     ensures { scan.new ≡ pattern_scan first (length scan.old) }
 {
-    let mut at = 0;
-    while at < scan.len() {
-        let next = at + WIDTH;
-        show_pattern(&mut scan[at..next], first + at / WIDTH);
-        at = next;
+    for (j, sample) in scan.iter_mut().enumerate() {
+        *sample = show(first + j / WIDTH, j % WIDTH);
     }
 }
 
@@ -60,11 +50,7 @@ fn read_byte(out: &[u16], j: usize) -> u8
     requires { (j + 1) * byte_samples ≤ length out.now }
     ensures { result ≡ gather byte_bits (λ i. middle_of out.now (byte_bits * j + i)) }
 {
-    let mut values = [false; BYTE_BITS];
-    for i in 0..BYTE_BITS {
-        values[i] = 1 <= out[(BYTE_BITS * j + i) * WIDTH + REACH];
-    }
-    bits::byte(values)
+    bits::byte(array::from_fn(|i| 1 <= out[(BYTE_BITS * j + i) * WIDTH + REACH]))
 }
 
 // The bytes of the truth table whose patterns the scan of a run shows.
@@ -72,31 +58,27 @@ fn read_bytes(out: &[u16], bytes: &mut [u8])
     requires { length out.now ≡ length bytes.old * byte_samples }
     ensures { bytes.new ≡ table_of (length bytes.old) (middle_of out.now) }
 {
-    for j in 0..bytes.len() {
-        bytes[j] = read_byte(out, j);
+    for (j, byte) in bytes.iter_mut().enumerate() {
+        *byte = read_byte(out, j);
     }
 }
 
-// The bytes of an accepted recipe's truth table for the patterns from the first on. The scan shows them, and the run goes to out.
-fn fill_batch(recipe: &[u8], scan: &mut [u16], out: &mut [u16], bytes: &mut [u8], first: usize)
-    requires { Batch recipe.now scan.old out.old bytes.old first }
+// The bytes of an accepted recipe's truth table for the patterns from the first on: a scan shows them, and is run.
+fn fill_batch(recipe: &[u8], bytes: &mut [u8], first: usize)
+    requires fine { recipe_checked recipe.now ≡ Ok tt }
+    requires nonempty { 0 < length bytes.old }
+    requires few { length bytes.old ≤ batch_bytes }
+    requires tabled { first + byte_bits * length bytes.old ≤ patterns }
     ensures { bytes.new ≡ table_of (length bytes.old) (λ v. truth_of recipe.now (first + v)) }
 {
+    let samples = bytes.len() * BYTE_SAMPLES;
+    let mut shown = [0u16; BATCH_SAMPLES];
+    let mut given = [0u16; BATCH_SAMPLES];
+    let scan = &mut shown[..samples];
+    let out = &mut given[..samples];
     show_patterns(scan, first);
     let _ = runner::run(recipe, scan, out);
     read_bytes(out, bytes);
-}
-
-// The byte after the batch that begins with the byte at.
-fn end_batch(at: usize) -> usize
-    requires { at ≤ table_bytes }
-    ensures { result ≡ min (at + batch_bytes) table_bytes }
-{
-    if BATCH_BYTES < TABLE_BYTES - at {
-        at + BATCH_BYTES
-    } else {
-        TABLE_BYTES
-    }
 }
 
 // The truth table of an accepted recipe, one batch after the other.
@@ -105,20 +87,10 @@ fn tabulate(recipe: &[u8]) -> [u8; TABLE_BYTES]
     ensures { result ≡ table_of table_bytes (truth_of recipe.now) }
 {
     let mut table = [0u8; TABLE_BYTES];
-    let mut scan = [0u16; BATCH_SAMPLES];
-    let mut out = [0u16; BATCH_SAMPLES];
-    let mut at: usize = 0;
-    while at < TABLE_BYTES {
-        let next = end_batch(at);
-        let samples = (next - at) * BYTE_SAMPLES;
-        fill_batch(
-            recipe,
-            &mut scan[..samples],
-            &mut out[..samples],
-            &mut table[at..next],
-            BYTE_BITS * at,
-        );
-        at = next;
+    for batch in 0..BATCHES {
+        let at = batch * BATCH_BYTES;
+        let next = TABLE_BYTES.min(at + BATCH_BYTES);
+        fill_batch(recipe, &mut table[at..next], BYTE_BITS * at);
     }
     table
 }

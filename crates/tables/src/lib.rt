@@ -54,7 +54,8 @@ fn keeps_without(table: &[u8], v: usize, i: usize) -> bool
     bits::has(v, i) && value_on(table, v - worth(i))
 }
 
-// Puts v at n where it is kept, and answers the next index.
+// Puts v at n where it is kept, and answers the next index. (Tried: the kept numbers by `filter` and `enumerate`. The proof that the loop
+// may ask for the next one did not close: the search for the iterator's own clause broke off.)
 #[tactic(auto, unfolding(theory::specs::Lists::bit))]
 fn put(terms: &mut [u16], n: usize, v: usize, kept: bool) -> usize
     requires { (kept ≡ true → n < length terms.old) × (v < patterns) }

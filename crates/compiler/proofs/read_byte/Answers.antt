@@ -1,15 +1,13 @@
-use Rattle.std.proofs.Common.{arith, refl, ◌∙◌}
-use Rattle.theory.proofs.Fills.{fill_none, fill_more}
-use Rattle.tables.proofs.Bytes.{filled_gather}
+-- `compiler::read_byte` meets its contract. Assumes nothing.
+use Rattle.std.proofs.Common.{rules, ◌∙◌, ◌+◌, ◌*◌}
+use borrow.Author.Tests.{tests}
+use Rattle.limits.specs.Limits.{byte_bits}
 use Rattle.compiler.specs.Private.{middle_of}
+use Rattle.tables.proofs.Chains.{made_byte}
 use Rattle.compiler.proofs.read_byte.Goals as goal
 
-pub loop-i-init : goal.loop-i-init
-loop-i-init c = fill_none _ _
-
-pub loop-i-preserved : goal.loop-i-preserved
-unfolding middle_of
-loop-i-preserved c = fill_more c.loop-i.invariant (omega arith) refl
-
 pub returns : goal.returns
-returns c = c.byte.ensures ∙ filled_gather c.loop-i.invariant (omega arith)
+unfolding middle_of
+returns c =
+    c.byte.ensures
+    ∙ made_byte _ _ _ (λ i. middle_of c.args.out.now (byte_bits * c.args.j + i)) (λ k y q l r. search (rules, tests)) c.from_fn.ensures.items

@@ -1,14 +1,12 @@
-use Rattle.std.proofs.Common.{arith, refl}
-use Rattle.theory.proofs.Fills.{fill_none}
-use Rattle.compiler.proofs.Batches.{pattern_filled}
+use Rattle.std.proofs.Common.{arith}
+use Rattle.theory.proofs.Fills.{fill_none, fill_more, fill_all}
 use Rattle.compiler.proofs.show_patterns.Goals as goal
 
-pub loop-at-init : goal.loop-at-init
-loop-at-init c = (refl, fill_none _ _)
+pub loop-j-init : goal.loop-j-init
+loop-j-init c = fill_none _ _
 
-pub loop-at-preserved : goal.loop-at-preserved
-loop-at-preserved c =
-    let i = c.loop-at.invariant in (
-      omega arith,
-      pattern_filled c.args.first i.1 i.0 _ (omega arith) c.show_pattern.ensures,
-    )
+pub loop-j-preserved : goal.loop-j-preserved
+loop-j-preserved c = fill_more c.loop-j.invariant (omega arith) c.show.ensures
+
+pub returns : goal.returns
+returns c = fill_all c.loop-j.invariant (omega arith)
