@@ -76,16 +76,10 @@ fn count_residues(scan: &[u16], cleaned: &[u16]) -> Counts
     counts
 }
 
-// Room for any scan. The `ensures` gives only the length, which lending the array as a slice needs.
-fn room() -> [u16; MOST_SAMPLES]
-    ensures { most_samples ≡ length result }
-{
-    [0; MOST_SAMPLES]
-}
-
 // The counts of a form and a scan that a run accepts, with as many elements lent for the cleaned values.
 fn clean_and_count(terms: &[u16], scan: &[u16], cleaned: &mut [u16]) -> Counts
-    requires { run_checked terms.now scan.now (length cleaned.old) ≡ Ok tt }
+    requires runs { run_checked terms.now scan.now (length scan.now) ≡ Ok tt }
+    requires room { length cleaned.old ≡ length scan.now }
     ensures { result ≡ counts_of (length scan.now) (residue_at held terms.now scan.now) }
 {
     let _ = scans::clean(terms, scan, cleaned);
@@ -97,7 +91,7 @@ fn count_scan(terms: &[u16], scan: &[u16]) -> Counts
     requires { run_checked terms.now scan.now (length scan.now) ≡ Ok tt }
     ensures { result ≡ counts_of (length scan.now) (residue_at held terms.now scan.now) }
 {
-    let mut cleaned = room();
+    let mut cleaned = [0u16; MOST_SAMPLES];
     let n = scan.len();
     clean_and_count(terms, scan, &mut cleaned[..n])
 }
@@ -117,7 +111,7 @@ fn read_and_count(file: &[u8], samples: &mut [u16], terms: &mut [u16]) -> Result
 pub fn count(file: &[u8]) -> Result<Counts, Refusal>
     ensures { Count file.now result }
 {
-    let mut samples = room();
+    let mut samples = [0u16; MOST_SAMPLES];
     let mut terms = [0u16; MOST_TERMS];
     read_and_count(file, &mut samples, &mut terms)
 }

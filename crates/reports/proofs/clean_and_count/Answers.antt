@@ -7,11 +7,11 @@ use Rattle.reports.proofs.clean_and_count.Goals as goal
 pub count_residues-requires : goal.count_residues-requires
 count_residues-requires c =
     let a = c.args in
-    let fit = run_short a.terms.now a.scan.now (length a.cleaned.now) c.requires in
+    let fit = run_short a.terms.now a.scan.now (length a.scan.now) c.requires.runs in
     omega arith
 
 pub returns : goal.returns
 returns c =
     let a = c.args in
-    let filled = run_cleaned a.terms.now a.scan.now a.cleaned.now _ _ c.clean.ensures c.requires in
+    let filled = run_cleaned a.terms.now a.scan.now a.cleaned.now _ _ c.clean.ensures (rw c.requires.room c.requires.runs) in
     c.count_residues.ensures ∙ rw filled (cleaned_counts held a.terms.now a.scan.now)
