@@ -25,7 +25,7 @@ const BYTE_SAMPLES: usize = BYTE_BITS * WIDTH;
 const BATCH_BYTES: usize = rows::PIECE / BYTE_SAMPLES;
 
 const BATCH_SAMPLES: usize = BATCH_BYTES * BYTE_SAMPLES;
-// The last batch may have fewer bytes than the others.
+// The last batch may have fewer bytes than the others. (A constant cannot call div_ceil yet.)
 const BATCHES: usize = (TABLE_BYTES + BATCH_BYTES - 1) / BATCH_BYTES;
 
 // The sample that shows column k of the pattern v: 1 where the pattern has the position that stands there.
@@ -81,7 +81,7 @@ fn fill_batch(recipe: &[u8], bytes: &mut [u8], first: usize)
     read_bytes(out, bytes);
 }
 
-// The truth table of an accepted recipe, one batch after the other.
+// The truth table of an accepted recipe, one batch after the other. (After chunks_mut a proof knows a slice's length alone.)
 fn tabulate(recipe: &[u8]) -> [u8; TABLE_BYTES]
     requires { recipe_checked recipe.now ≡ Ok tt }
     ensures { result ≡ table_of table_bytes (truth_of recipe.now) }
