@@ -11,7 +11,7 @@ use Rattle.theory.specs.Signals.{Ends}
 use Rattle.theory.proofs.Signals.{before, after, endless-between}
 use Rattle.theory.proofs.Lists.{length-tab}
 use Rattle.refusals.specs.Refusals.{written}
-use Rattle.refusals.specs.Shared.{scan_checked}
+use Rattle.refusals.specs.Shared.{scan_checked, lent_checked}
 use Rattle.refusals.proofs.Checks.{and_then_fine, written_whole}
 use Rattle.refusals.proofs.Shared.{scan_fine, lent_fine}
 use Rattle.recipes.specs.Judge.{recipe_checked}
@@ -26,6 +26,11 @@ run_fine r s lent e =
     let judged = and_then_fine (recipe_checked r) _ e in
     let rest = and_then_fine (scan_checked most_samples (length s)) _ judged.1 in
     (judged.0, lent_fine (length s) lent rest.1, (scan_fine most_samples (length s) rest.0).0)
+
+pub fine_run : (r s : List ℕ) (lent : ℕ) → recipe_checked r ≡ Ok tt → scan_checked most_samples (length s) ≡ Ok tt
+    → lent_checked (length s) lent ≡ Ok tt → recipe_run_checked r s lent ≡ Ok tt
+unfolding recipe_run_checked
+fine_run r s lent judged long fits = rw (judged, long, fits)
 
 -- the values between what stands beyond the ends are those under the ends rule, and they are the whole slice
 pub run_written : (ends : Ends) (r s new old : List ℕ) (left right : ℕ) → recipe_run_checked r s (length old) ≡ Ok tt

@@ -6,21 +6,21 @@ use mathlib.Core.List.{List, ◌∷◌, ◌++◌, append_assoc}
 use mathlib.Core.Option.{some}
 use Prim.Native.Nat.{ℕ, zero, suc, ◌+◌, ◌-◌, ◌*◌, ◌≤◌, ◌<◌}
 use native.Mathlib.Omega.{arith}
-use lib.ListN.{length, get_or, take, drop, length-drop, take-append-drop}
-use lib.Seq.{ext_get_or, length-take-le, take-append-le, drop-append-le, take_at, drop_at, drop-drop}
+use lib.ListN.{length, take, drop, length-drop, take-append-drop}
+use lib.Seq.{length-take-le, take-append-le, drop-append-le, take_at, drop_at, drop-drop}
 use borrow.Author.Tests.{lt-ltb, le-leb}
 use borrow.Rule.Slice.PartMut.{mid_of}
 use Rattle.std.proofs.lemmas.List.{drop-take}
 use Rattle.std.proofs.Common.{take-add}
 use Rattle.limits.specs.Limits.{reach, most_signals}
-use Rattle.theory.proofs.Lists.{length-tab, get_or-tab}
+use Rattle.theory.proofs.Lists.{length-tab}
 use Rattle.recipes.specs.Machine.{added, replaced, joined}
 use Rattle.rows.specs.declared.Change.{Change}
 use Rattle.rows.specs.Sizes.{opening, longest_row}
-use Rattle.rows.specs.Private.{margin, part, Sound}
+use Rattle.rows.specs.Private.{margin, Sound}
 use Rattle.rows.specs.Rows.{widened, paired}
 use Rattle.rows.specs.Changes.{after_change, can_change}
-use Rattle.rows.proofs.Passes.{copied, put_widened, put_paired, copied_fits, wider_by, put_widened_fits, put_paired_fits}
+use Rattle.rows.proofs.Passes.{put_widened, put_paired, wider_by, put_widened_fits, put_paired_fits}
 use Rattle.rows.proofs.Parts.{mid_length, row_fits}
 use Rattle.runner.specs.Private.{rows_in, Holds}
 

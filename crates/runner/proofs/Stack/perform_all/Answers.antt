@@ -3,7 +3,7 @@ use Rattle.runner.proofs.Performs.{going_start, going_good, going_ready, going_o
 use Rattle.runner.proofs.Stack.perform_all.Goals as goal
 
 pub loop-i-init : goal.loop-i-init
-loop-i-init c = (going_start _ _ _ _ _ c.requires.0, refl)
+loop-i-init c = rw c.steps-steps.ensures (going_start _ _ _ _ _ c.args.recipe.now.fine, refl)
 
 pub returns-in_default : goal.returns-in_default
 returns-in_default c =

@@ -6,4 +6,4 @@ use Rattle.runner.proofs.Stack.perform_all.Given as goal
 
 abbrev pub invariant-loop-i : goal.invariant-loop-i
 invariant-loop-i l =
-    Going l.beyond.left l.beyond.right l.recipe l.scan l.self.values l.steps l.self.held l.i × (l.self.row ≡ length l.scan + margin)
+    Going l.beyond.left l.beyond.right l.recipe.bytes.now l.scan l.self.values l.steps l.self.held l.i × (l.self.row ≡ length l.scan + margin)
