@@ -10,12 +10,12 @@ ghost use Rattle.std.specs.Prelude.{◌≡◌, Ok, ◌+◌, ◌*◌, ◌<◌, �
 ghost use Rattle.limits.specs.Limits.{patterns, byte_bits, table_bytes};
 ghost use Rattle.theory.specs.Sets.{gather};
 ghost use Rattle.theory.specs.Tables.{table_of};
-ghost use Rattle.recipes.specs.Judge.{recipe_checked};
 ghost use Rattle.recipes.specs.Meaning.{truth_of};
 ghost use Rattle.compiler.specs.Private.{byte_samples, batch_bytes, sample_of, pattern_scan, middle_of};
 ghost use Rattle.compiler.specs.Compile.{Compile};
 
 use limits::{BYTE_BITS, REACH, TABLE_BYTES, WIDTH};
+use recipes::Recipe;
 use refusals::Refusal;
 use std::array;
 
@@ -64,12 +64,11 @@ fn read_bytes(out: &[u16], bytes: &mut [u8])
 }
 
 // The bytes of an accepted recipe's truth table for the patterns from the first on: a scan shows them, and is run.
-fn fill_batch(recipe: &[u8], bytes: &mut [u8], first: usize)
-    requires fine { recipe_checked recipe.now ≡ Ok tt }
+fn fill_batch(recipe: &Recipe<'_>, bytes: &mut [u8], first: usize)
     requires nonempty { 0 < length bytes.old }
     requires few { length bytes.old ≤ batch_bytes }
     requires tabled { first + byte_bits * length bytes.old ≤ patterns }
-    ensures { bytes.new ≡ table_of (length bytes.old) (λ v. truth_of recipe.now (first + v)) }
+    ensures { bytes.new ≡ table_of (length bytes.old) (λ v. truth_of recipe.now.bytes.now (first + v)) }
 {
     let samples = bytes.len() * BYTE_SAMPLES;
     let mut shown = [0u16; BATCH_SAMPLES];
@@ -77,14 +76,13 @@ fn fill_batch(recipe: &[u8], bytes: &mut [u8], first: usize)
     let scan = &mut shown[..samples];
     let out = &mut given[..samples];
     show_patterns(scan, first);
-    let _ = runner::run(recipe, scan, out);
+    let _ = runner::run(recipe.bytes(), scan, out);
     read_bytes(out, bytes);
 }
 
 // The truth table of an accepted recipe, one batch after the other. (After chunks_mut a proof knows a slice's length alone.)
-fn tabulate(recipe: &[u8]) -> [u8; TABLE_BYTES]
-    requires { recipe_checked recipe.now ≡ Ok tt }
-    ensures { result ≡ table_of table_bytes (truth_of recipe.now) }
+fn tabulate(recipe: &Recipe<'_>) -> [u8; TABLE_BYTES]
+    ensures { result ≡ table_of table_bytes (truth_of recipe.now.bytes.now) }
 {
     let mut table = [0u8; TABLE_BYTES];
     for batch in 0..BATCHES {
@@ -101,7 +99,7 @@ fn tabulate(recipe: &[u8]) -> [u8; TABLE_BYTES]
 pub fn compile(recipe: &[u8], terms: &mut [u16]) -> Result<usize, Refusal>
     ensures { Compile recipe.now terms.old terms.new result }
 {
-    recipes::judge(recipe)?;
-    let table = tabulate(recipe);
+    let recipe = Recipe::new(recipe)?;
+    let table = tabulate(&recipe);
     tables::table_to_form(&table, terms)
 }

@@ -7,5 +7,5 @@ pub returns : goal.returns
 returns c =
     let r = c.requires in
     batch_read _ _ _ _ _
-    (record { fine = r.fine; nonempty = r.nonempty; few = r.few; scanned = search rules; lent = search rules; tabled = r.tabled })
-    _ _ _ _ c.show_patterns.ensures c.run.ensures c.read_bytes.ensures
+    (record { fine = c.args.recipe.now.fine; nonempty = r.nonempty; few = r.few; scanned = search rules; lent = search rules; tabled = r.tabled })
+    _ _ _ _ c.show_patterns.ensures (rw c.bytes.ensures at c.run.ensures) c.read_bytes.ensures

@@ -16,7 +16,7 @@ loop-batch-preserved c =
     let next = c.min-next.result in
     let here : min table_bytes (batch * batch_bytes) ≡ batch * batch_bytes = omega arith in
     let there : min table_bytes ((batch + 1) * batch_bytes) ≡ next = omega arith in
-    rw there (batch_filled (truth_of c.args.recipe.now) (rw here at c.loop-batch.invariant) next _ (omega arith) (omega arith) c.fill_batch.ensures)
+    rw there (batch_filled (truth_of c.args.recipe.now.bytes.now) (rw here at c.loop-batch.invariant) next _ (omega arith) (omega arith) c.fill_batch.ensures)
 
 pub returns : goal.returns
 unfolding table_of

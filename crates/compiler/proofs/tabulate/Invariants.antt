@@ -8,4 +8,4 @@ use Rattle.compiler.specs.Private.{batch_bytes}
 use Rattle.compiler.proofs.tabulate.Given as goal
 
 abbrev pub invariant-loop-batch : goal.invariant-loop-batch
-invariant-loop-batch l = Filled (byte_of (truth_of l.recipe)) l.initial.table l.table (min table_bytes (l.batch * batch_bytes))
+invariant-loop-batch l = Filled (byte_of (truth_of l.recipe.bytes.now)) l.initial.table l.table (min table_bytes (l.batch * batch_bytes))
