@@ -8,6 +8,7 @@
 #![tactic(auto)]
 
 mod input;
+mod long;
 mod names;
 mod places;
 mod tell;
@@ -15,8 +16,9 @@ mod tell;
 mod tests;
 
 pub use input::{
-    FILE_ROOM, INTERRUPTED, Input, MOST_READS, Source, file_room, read_file, read_more,
+    FILE_ROOM, MOST_READS, Source, file_in, file_room, given_up, read_file, read_more,
 };
+pub use long::TooLong;
 pub use names::{is_file, open};
 pub use places::StandardInput;
-pub use tell::{complain, has_no_argument, print, write_line};
+pub use tell::{Numbered, exit_code, has_argument, write_line};

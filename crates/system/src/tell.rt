@@ -4,36 +4,32 @@ ghost use Rattle.std.specs.Io.KnownBytes.{Appends};
 ghost use Rattle.system.specs.Writes.{AppendsPart};
 
 use std::env::FillError;
-use std::fmt::InlineText;
-use std::io::{Error, ErrorKind, Result, Write};
+use std::fmt::{self, Display, Formatter, InlineText};
+use std::io::{Eprint, Error, ErrorKind, Result, Write};
+use std::process::ExitCode;
 use std::rt::Env;
 
 // The system's words for an error are shorter.
 const WORDS: usize = 256;
 
-// The most digits of an error's number, with a sign.
-const DIGITS: usize = 11;
-
-// Whether the program was given no argument. Where it was, says on standard error how it is used.
-pub fn has_no_argument<R: Env, E: Write>(rt: &R, err: &mut E, usage: &[u8]) -> bool {
+// Whether the program was given an argument.
+pub fn has_argument<R: Env>(rt: &R) -> bool {
     let mut first = [0u8; 1];
-    if let Err(FillError::NotPresent) = rt.arg(1, &mut first) {
-        return true;
-    }
-    say(err, usage);
-    false
+    !matches!(rt.arg(1, &mut first), Err(FillError::NotPresent))
 }
 
-// Says on standard error what could not be done, with the error's number and the system's words for it.
-pub fn complain<E: Write>(err: &mut E, what: &[u8], error: Error) {
-    say(err, what);
-    if let Some(number) = error.raw_os_error() {
-        say(err, InlineText::<DIGITS>::of(number).as_str().as_bytes());
+// An error as the programs say it: its number, where the system gave it one, and the system's words for it.
+#[derive(Clone, Copy)]
+pub struct Numbered(pub Error);
+
+impl Display for Numbered {
+    fn fmt<W: fmt::Write>(&self, f: &mut Formatter<W>) -> fmt::Result {
+        if let Some(number) = self.0.raw_os_error() {
+            write!(f, "{number}")?;
+        }
+        let text = InlineText::<WORDS>::of(self.0);
+        write!(f, ": {}", words_alone(text.as_str()))
     }
-    say(err, b": ");
-    let text = InlineText::<WORDS>::of(error);
-    say(err, words_alone(text.as_str()).as_bytes());
-    say(err, b"\n");
 }
 
 // The system's words for an error without the number that std writes behind them.
@@ -44,35 +40,33 @@ fn words_alone(words: &str) -> &str {
     }
 }
 
-// Says something as far as it can be said; nothing is left to do where it cannot.
-fn say<E: Write>(err: &mut E, words: &[u8]) {
-    let _ = write_line(err, words);
+// How a program ends: where something could not be done, that is said on standard error, and the status is 1.
+pub fn exit_code<R: Eprint, F: Display + Drop>(
+    rt: &R,
+    done: std::result::Result<(), F>,
+) -> ExitCode {
+    match done {
+        Ok(()) => ExitCode::SUCCESS,
+        Err(failure) => {
+            // Nothing is left to do where it cannot be said.
+            let _ = eprintln!(rt; "{failure}");
+            ExitCode::FAILURE
+        }
+    }
 }
 
 // Writes a line with one write; only where that leaves some of it, with others. Where a write fails, or takes nothing, the line's first
-// bytes are written, and no others.
+// bytes are written, and no others. (std's write_all says nothing of a line that it could not write, and this says it: `part`.)
 pub fn write_line<W: Write>(out: &mut W, line: &[u8]) -> Result<()>
     ensures whole { OnOk result (Appends (W.contents out.old) (W.contents out.new) line.now) }
     ensures part { OnErr result (AppendsPart (W.contents out.old) (W.contents out.new) line.now) }
 {
-    let mut done = 0;
-    while done < line.len() {
-        match out.write(&line[done..]) {
-            Ok(0) => return Err(Error::from(ErrorKind::WriteZero)),
-            Ok(more) => done += more,
-            Err(error) => return Err(error),
+    let mut rest = line;
+    while !rest.is_empty() {
+        match out.write(rest)? {
+            0 => return Err(Error::from(ErrorKind::WriteZero)),
+            taken => rest = &rest[taken..],
         }
     }
     Ok(())
-}
-
-// Prints a line with one write, and answers whether it could. Where it could not, says so.
-pub fn print<W: Write, E: Write>(out: &mut W, err: &mut E, line: &[u8], complaint: &[u8]) -> bool {
-    match write_line(out, line) {
-        Ok(()) => true,
-        Err(error) => {
-            complain(err, complaint, error);
-            false
-        }
-    }
 }

@@ -1,5 +1,6 @@
 // What no clause says: how a failure in the midst of reading or writing comes out, and what the system's words are taken for.
 use crate::input::{FILE_ROOM, Source, file_room, read_all, read_file};
+use crate::long::TooLong;
 use crate::places::told_place;
 use crate::tell::write_line;
 use std::io::{Error, ErrorKind, Read, Result, Write};
@@ -27,7 +28,7 @@ impl Read for Slow<'_> {
 }
 
 impl Source for Slow<'_> {
-    fn told_length(&mut self) -> Option<usize> {
+    fn told_length(&mut self) -> Option<TooLong> {
         None
     }
 }
@@ -46,8 +47,7 @@ fn takes_interrupted_reads_up_again(rt: HostRuntime) {
     let mut input = make_slow(b"abcdefgh", 1, ErrorKind::Interrupted);
     let mut room = [0u8; 10];
     let read = read_all(&mut input, &mut room);
-    assert!(rt; read.error.is_none());
-    assert_eq!(rt; read.bytes, 8);
+    assert!(rt; read.is_ok_and(|bytes| bytes == 8));
     assert_eq!(rt; room.as_slice(), b"abcdefgh\0\0".as_slice());
 }
 
@@ -56,8 +56,9 @@ fn says_that_a_read_failed(rt: HostRuntime) {
     let mut input = make_slow(b"abcdefgh", 2, ErrorKind::TimedOut);
     let mut room = [0u8; 10];
     let read = read_all(&mut input, &mut room);
-    assert!(rt; read.error.is_some_and(|e| e.kind() == ErrorKind::TimedOut));
-    assert_eq!(rt; read.bytes, 6);
+    assert!(rt; read.is_err_and(|e| e.kind() == ErrorKind::TimedOut));
+    assert_eq!(rt; 6 + input.left.len(), 8);
+    assert_eq!(rt; room.as_slice(), b"abcdef\0\0\0\0".as_slice());
 }
 
 #[test]
@@ -67,8 +68,7 @@ fn counts_on_where_no_length_is_told(rt: HostRuntime) {
     input.at_once = 5000;
     let mut room = file_room();
     let read = read_file(&mut input, &mut room);
-    assert!(rt; read.error.is_none());
-    assert_eq!(rt; read.bytes, FILE_ROOM + 100);
+    assert!(rt; read.is_ok_and(|bytes| bytes == FILE_ROOM + 100));
 }
 
 // Takes a few bytes at a time, and fails once it has taken some.

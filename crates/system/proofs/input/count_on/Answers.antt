@@ -5,18 +5,19 @@ use Rattle.system.proofs.input.count_on.Goals as goal
 
 pub loop-preserved : goal.loop-preserved
 loop-preserved g c =
-    let more = c.read_more-more.ensures in
+    let read = c.in_ok-more.ensures in
+    let more = rw c.in-Some.is at read.more in
+    let taken = rw c.in-Some.is at read.taken in
     let was = c.loop.invariant in
-    let input = c.read_more-more.new.input in
-    let n = c.read_more-more.result.bytes in
-    let within : n ≤ length input = omega arith in
+    let input = c.read_more.new.input in
+    let n = c.in-Some.more in
+    let within : n ≤ length input = omega (arith, more.within) in
     record {
       more = omega arith;
-      few = omega arith;
+      few = omega (arith, within);
       counted = (
         was.counted.0 ++ take n input,
-        takes_both _ _ _ _ _ was.counted.1 more.taken,
+        takes_both _ _ _ _ _ was.counted.1 taken,
         omega (arith, was.counted.2, length-append was.counted.0 (take n input), length-take-le n input within),
       );
-      ended = λ o e. more.ended o e (omega arith);
     }

@@ -4,11 +4,11 @@ use Rattle.system.proofs.input.read_all.Goals as goal
 
 pub loop-preserved : goal.loop-preserved
 loop-preserved g c =
-    let more = c.read_more-read.ensures in
-    let was = c.loop.invariant in
-    let joined = read_joins c.loop.read.bytes c.read_more-read.result.bytes c.loop.input c.read_more-read.new.input (omega (arith, was.fit, more.reads_on.enough)) more.reads_on.kept in
+    let read = c.in_ok-more.ensures in
+    let more = rw c.in-Some.is at read.more in
+    let taken = rw c.in-Some.is at read.taken in
+    let joined = read_joins c.loop.bytes c.in-Some.more c.loop.input c.read_more.new.input (omega (arith, c.loop.invariant.fit, more.enough)) read.kept in
     record {
-      fit = omega arith;
-      taken = rw joined at (takes_both _ _ _ _ _ was.taken more.taken);
-      ended = λ o e h. more.ended o e (omega arith);
+      fit = omega (arith, more.within);
+      taken = rw joined at (takes_both _ _ _ _ _ c.loop.invariant.taken taken);
     }

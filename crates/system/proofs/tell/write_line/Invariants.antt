@@ -1,12 +1,11 @@
-use Rattle.std.proofs.Common.{◌-◌, ◌≤◌, length, take}
+use Rattle.std.proofs.Common.{◌≡◌, ◌≤◌, ℕ, length, take, drop}
 use Rattle.std.specs.Io.KnownBytes.{Appends}
 use Rattle.system.proofs.tell.write_line.Given as goal
 
-abbrev pub invariant-loop-done : goal.invariant-loop-done
-invariant-loop-done g l = record {
-  fit : l.done ≤ length l.line;
-  grown : Appends (g.W.Write.contents l.fn.out) (g.W.Write.contents l.out) (take l.done l.line);
-}
+-- so many bytes of the line have been taken, and the rest is what is left to write
+abbrev pub invariant-loop-rest : goal.invariant-loop-rest
+invariant-loop-rest g l =
+    (n : ℕ) × (n ≤ length l.line) × (l.rest ≡ drop n l.line) × Appends (g.W.Write.contents l.fn.out) (g.W.Write.contents l.out) (take n l.line)
 
-abbrev pub decreases-loop-done : goal.decreases-loop-done
-decreases-loop-done g l = length l.line - l.done
+abbrev pub decreases-loop-rest : goal.decreases-loop-rest
+decreases-loop-rest g l = length l.rest
