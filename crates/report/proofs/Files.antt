@@ -1,15 +1,25 @@
--- What was read is some file. Assumes nothing.
-use Rattle.std.proofs.Common.{◌≡◌, ℕ, Bool, true, false, List, refl, sym, arith, take, replicate}
-use lib.Dec.{ltb}
+-- What was read is some file, and of every file there is a line. Assumes nothing.
+use Rattle.std.proofs.Common.{◌≡◌, ℕ, List, refl, sym, ◌∙◌, arith, length, replicate, Result, Ok, Err}
+use Rattle.std.specs.Borrow.{Bor}
 use lib.ListN.{length-replicate}
-use borrow.Author.Tests.{ltb-true, ltb-false}
-use Rattle.limits.specs.Limits.{longest_file}
-use Rattle.system.specs.Reads.{Kept, IsRead}
+use Rattle.limits.specs.Limits.{line_bytes}
+use Rattle.refusals.specs.Shared.{lent_checked}
+use Rattle.refusals.specs.declared.Answer.{Answer}
+use Rattle.refusals.specs.declared.Answer.TheVariants.{Refused}
+use Rattle.refusals.specs.declared.Refusal.{Refusal}
+use Rattle.lines.specs.Lines.{Line}
+use Rattle.system.specs.declared.long.TooLong.{TooLong}
+use Rattle.system.specs.Reads.{IsFile}
 
--- the bytes that were kept, or, where it is too long, any bytes
-pub some_file : (n : ℕ) (room : List ℕ) → Kept n room → (f : List ℕ) × IsRead n room f
-some_file n room kept = go (ltb longest_file n) refl
-  where
-    go : (b : Bool) → ltb longest_file n ≡ b → (f : List ℕ) × IsRead n room f
-    go true e = (replicate n 0, (length-replicate n 0, λ short. absurd (omega (arith, ltb-true longest_file n e))))
-    go false e = (take n room, (sym (kept (ltb-false longest_file n e)).1, λ short. refl))
+-- its bytes, or, where it is too long, any bytes
+pub some_file : (file : Result (Bor (List ℕ)) TooLong) → (f : List ℕ) × IsFile file f
+some_file (Ok bytes) = (bytes.now, refl)
+some_file (Err whole) = (replicate whole.length 0, length-replicate whole.length 0)
+
+-- where as many bytes are lent as the call wants, it does not refuse
+pub line_given : (f old new : List ℕ) (r : Answer) (q : Refusal) → length old ≡ line_bytes → Line f old new r → r ≡ Refused q → ⊥
+unfolding lent_checked
+line_given f old new r q e p refused =
+    let never = rw e at (sym refused ∙ p.answer) in
+    let z : ◌≡◌ {A = ℕ} 0 1 = cc in
+    absurd (omega arith)

@@ -8,66 +8,74 @@
 
 ghost use Rattle.std.specs.Prelude.{List, ℕ};
 ghost use Rattle.lines.specs.Lines.{Line};
-ghost use Rattle.system.specs.Reads.{Kept, IsRead};
+ghost use Rattle.system.specs.Reads.{IsFile};
 
-use limits::{LINE_BYTES, LONGEST_FILE};
+use limits::LINE_BYTES;
 use refusals::Answer;
-use std::io::Write;
+use std::fmt::{self, Display, Formatter};
+use std::io::{Error, Write};
 use std::process::ExitCode;
-use system::StandardInput;
+use system::{Numbered, Source, StandardInput, TooLong};
 use totals::Outcome;
 
-// Writes the line of a file that was read. Of one that is too long, its length alone decides.
-fn write_line(length: usize, room: &[u8], line: &mut [u8]) -> Answer
-    requires { Kept length room.now }
-    ensures { (f : List ℕ) → IsRead length room.now f → Line f line.old line.new result }
-{
-    if LONGEST_FILE < length {
-        let outcome = Outcome::Opened(reports::refuse_length(length));
-        return lines::outcome_line(outcome, line);
-    }
-    lines::line(&room[..length], line)
+// What could not be done.
+#[derive(Clone, Copy)]
+enum Failure {
+    Unread(Error),
+    Unwritten(Error),
 }
 
-// Prints the line of a file that was read, and answers whether it could.
-fn report<W: Write, E: Write>(out: &mut W, err: &mut E, length: usize, room: &[u8]) -> bool
-    requires { Kept length room.now }
-{
-    let mut line = [0u8; LINE_BYTES];
-    match write_line(length, room, &mut line) {
-        Answer::Done(n) => system::print(
-            out,
-            err,
-            &line[..n],
-            b"report: the line could not be written whole; error ",
-        ),
-        // As many bytes are lent as the call wants, so it does not refuse.
-        Answer::Refused(_) => false,
+impl Display for Failure {
+    fn fmt<W: fmt::Write>(&self, f: &mut Formatter<W>) -> fmt::Result {
+        match self {
+            Failure::Unread(error) => write!(
+                f,
+                "report: no line is printed, since standard input could not be read; error {}",
+                Numbered(*error)
+            ),
+            Failure::Unwritten(error) => write!(
+                f,
+                "report: the line could not be written whole; error {}",
+                Numbered(*error)
+            ),
+        }
     }
+}
+
+// Writes the line of a file. Of one that is too long, its length alone decides.
+fn write_line(file: Result<&[u8], TooLong>, line: &mut [u8]) -> Answer
+    ensures { (f : List ℕ) → IsFile file.entry f → Line f line.old line.new result }
+{
+    match file {
+        Ok(bytes) => lines::line(bytes, line),
+        Err(whole) => {
+            let outcome = Outcome::Opened(reports::refuse_length(whole.length));
+            lines::outcome_line(outcome, line)
+        }
+    }
+}
+
+// Reads a file and prints its line.
+fn report<S: Source, W: Write>(input: &mut S, out: &mut W) -> Result<(), Failure> {
+    let mut room = system::file_room();
+    let length = system::read_file(input, &mut room).map_err(Failure::Unread)?;
+    let mut line = [0u8; LINE_BYTES];
+    let file = system::file_in(&room, length);
+    let Answer::Done(n) = write_line(file, &mut line) else {
+        // As many bytes are lent as the call wants, so it does not refuse.
+        unreachable!();
+    };
+    system::write_line(out, &line[..n]).map_err(Failure::Unwritten)
 }
 
 fn main(rt: HostRuntime) -> ExitCode {
-    let mut err = rt.stderr();
-    if !system::has_no_argument(&rt, &mut err, b"usage: report < FILE\n") {
+    if system::has_argument(&rt) {
+        let _ = eprintln!(rt; "usage: report < FILE");
         return ExitCode::SUCCESS;
     }
-    let mut room = system::file_room();
     let mut input = StandardInput {
         reader: rt.stdin(),
         files: &rt,
     };
-    let read = system::read_file(&mut input, &mut room);
-    if let Some(error) = read.error {
-        system::complain(
-            &mut err,
-            b"report: no line is printed, since standard input could not be read; error ",
-            error,
-        );
-        return ExitCode::FAILURE;
-    }
-    if report(&mut rt.stdout(), &mut err, read.bytes, &room) {
-        ExitCode::SUCCESS
-    } else {
-        ExitCode::FAILURE
-    }
+    system::exit_code(&rt, report(&mut input, &mut rt.stdout()))
 }
