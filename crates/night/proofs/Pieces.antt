@@ -32,7 +32,7 @@ pub none_judged : (slice : List ℕ) (judge : Judge) → judge ≡ fresh → Jud
 unfolding flatten
 none_judged slice judge e = ([], e, inl refl)
 
-place_within : (bytes room : ℕ) → next_place bytes room ≤ room
+pub place_within : (bytes room : ℕ) → next_place bytes room ≤ room
 unfolding next_place
 place_within bytes room = go (which (ltb bytes room))
   where

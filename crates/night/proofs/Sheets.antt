@@ -8,29 +8,41 @@ use Prim.Native.Nat.{ℕ, ◌+◌, ◌≤◌, ◌<◌}
 use native.Mathlib.Numerals.{add-one}
 use native.Mathlib.Omega.{arith}
 use lib.ListN.{length, drop, length-append, drop_of_length-le}
+use borrow.Author.Tests.{eq-eqb}
 use Rattle.limits.specs.Limits.{most_names}
 use Rattle.refusals.specs.declared.Answer.{Answer}
 use Rattle.refusals.specs.declared.Answer.TheVariants.{Done, Refused}
-use Rattle.refusals.specs.declared.Checked.{Checked}
 use Rattle.refusals.specs.declared.Checked.TheVariants.{Fine}
-use Rattle.refusals.specs.Promise.{Gives}
+use Rattle.refusals.specs.Shared.{lent_checked}
 use Rattle.lists.specs.Names.{lines_of, line_end, list_checked}
 use Rattle.lists.proofs.Ends.{lines_walked}
 use Rattle.lists.proofs.Sizes.{fine_lines}
+use Rattle.lines.specs.Lines.{Writes}
 use Rattle.lines.proofs.Lengths.{line_fits}
 use Rattle.totals.specs.declared.Outcome.{Outcome}
 use Rattle.totals.specs.declared.Totals.{Totals}
 use Rattle.totals.specs.Totals.{nothing, added}
-use Rattle.totals.specs.Nights.{OfFile, OfFiles, running}
+use Rattle.totals.specs.declared.Outcome.TheVariants.{Unopened}
+use Rattle.totals.specs.Nights.{OfFile, OfFiles, not_opened, running}
+use Rattle.std.specs.Prelude.{Result, Ok, Err, IfOk}
+use Rattle.std.specs.Result.{result_unwrap_or}
 use Rattle.totals.proofs.Nights.{night_exact}
-use Rattle.night.specs.declared.Printed.TheVariants.{Whole}
 use Rattle.night.specs.Private.{Within, OfList}
 
--- a line lies in the room that its call was lent
-pub line_within : {check : ℕ → Checked} (text old new : List ℕ) (r : Answer) → Gives check (length text) text old new r
-    → length new ≡ length old → Within (length new) r
-line_within text old new (Done n) p same = line_fits text old new n p same
-line_within text old new (Refused r) p same = tt
+-- a line lies in the room that its call was lent, where that is as large as the call wants
+pub line_within : (room : ℕ) (text old new : List ℕ) (r : Answer) → length old ≡ room → Writes room text old new r → length new ≡ length old
+    → Within (length new) r
+unfolding lent_checked
+line_within room text old new (Done n) e p same = line_fits text old new n p same
+line_within room text old new (Refused r) e p same =
+    let never = rw (e, eq-eqb room room refl) at p.answer in
+    let z : ◌≡◌ {A = ℕ} 0 1 = cc in
+    absurd (omega arith)
+
+-- a file that was not opened or not read is not opened
+pub opened_or : {E : Type 0} (r : Result Outcome E) → IfOk r OfFile → OfFile (result_unwrap_or r Unopened)
+opened_or (Ok o) p = p
+opened_or (Err e) p = not_opened
 
 -- so far on the sheet: the line at hand begins at a place of the list
 abbrev pub SoFar : List ℕ → ℕ → Totals → Type 0
@@ -61,7 +73,7 @@ sheet_goes_on list place totals o h is (outcomes, each, e, count) =
 
 -- at the list's end every line has its outcome, and the totals are exact
 pub sheet_ends : (list : List ℕ) (place : ℕ) (totals : Totals) → list_checked list ≡ Fine → length list ≤ place → SoFar list place totals
-    → OfList list (Whole totals)
+    → OfList list totals
 unfolding lines_of
 sheet_ends list place totals fine h (outcomes, each, e, count) =
     let none = ap (λ (rest : List ℕ). length (lines_of rest)) (drop_of_length-le list h) in

@@ -11,7 +11,7 @@
 // sheet where standard error is empty.
 #![tactic(auto)]
 
-ghost use Rattle.std.specs.Prelude.{◌≡◌, List, ℕ, ◌+◌, ◌≤◌, length};
+ghost use Rattle.std.specs.Prelude.{◌≡◌, List, ℕ, ◌+◌, ◌≤◌, length, IfOk};
 ghost use Rattle.io.specs.Counts.{IsPrefixLen};
 ghost use Rattle.limits.specs.Limits.{longest_list};
 ghost use Rattle.refusals.specs.declared.Checked.TheVariants.{Fine};
@@ -19,20 +19,48 @@ ghost use Rattle.reports.specs.Counts.{file_counted};
 ghost use Rattle.lists.specs.Names.{list_checked};
 ghost use Rattle.totals.specs.declared.Outcome.TheVariants.{Opened};
 ghost use Rattle.totals.specs.Nights.{OfFile};
-ghost use Rattle.system.specs.Reads.{Kept, IsRead};
-ghost use Rattle.night.specs.Private.{next_place, Judged, Accepts, Within, OfList};
+ghost use Rattle.system.specs.Reads.{IsFile};
+ghost use Rattle.night.specs.Private.{next_place, Judged, Reached, Accepts, Within, OfList};
 
-use limits::{LINE_BYTES, LONGEST_FILE, LONGEST_LIST, TOTALS_BYTES};
+use limits::{LINE_BYTES, LONGEST_LIST, TOTALS_BYTES};
 use lists::Judge;
 use refusals::{Answer, Checked, Refusal};
-use std::io::{Error, Read, Write};
+use std::fmt::{self, Display, Formatter};
+use std::io::{self, Error, Read, Write};
+use std::ops::ControlFlow;
 use std::process::ExitCode;
 use std::rt::Files;
-use system::{FILE_ROOM, INTERRUPTED, MOST_READS, Source};
+use system::{FILE_ROOM, MOST_READS, Numbered, Source, TooLong};
 use totals::{Outcome, Totals};
 
 // One byte more than the longest list that is accepted has, so that one which fills it is refused.
 const LIST_ROOM: usize = LONGEST_LIST + 1;
+
+// What could not be done.
+#[derive(Clone, Copy)]
+enum Failure {
+    Unread(Error),
+    Unwritten(Error),
+}
+
+impl Display for Failure {
+    fn fmt<W: fmt::Write>(&self, f: &mut Formatter<W>) -> fmt::Result {
+        match self {
+            Failure::Unread(error) => write!(
+                f,
+                "night: no sheet is printed, since standard input could not be read; error {}",
+                Numbered(*error)
+            ),
+            Failure::Unwritten(error) => write!(
+                f,
+                "night: the sheet could not be written whole; error {}",
+                Numbered(*error)
+            ),
+        }
+    }
+}
+
+// ---- the list
 
 // The `ensures` gives only the length, which lending the array as a slice needs.
 fn list_room() -> [u8; LIST_ROOM]
@@ -41,16 +69,11 @@ fn list_room() -> [u8; LIST_ROOM]
     [0; LIST_ROOM]
 }
 
-// ---- the list
-
-// What reading the list has come to: the judge of what came, how many of its bytes lie in the slice, whether reading is over, and the
-// error that ended it, where one did.
+// What reading the list has come to: the judge of what came, and how many of its bytes lie in the slice.
 #[derive(Clone, Copy)]
 struct Reading {
     judge: Judge,
     bytes: usize,
-    is_over: bool,
-    error: Option<Error>,
 }
 
 // Where the next piece goes: behind the bytes that there are, and in a full slice at its start.
@@ -60,206 +83,189 @@ fn next_place(bytes: usize, room: usize) -> usize
     if bytes < room { bytes } else { 0 }
 }
 
-// Reads one piece more, and judges it.
-fn read_piece<R: Read>(reader: &mut R, before: Reading, text: &mut [u8]) -> Reading
+// Reads one piece more, and judges it. Reading breaks off where the list ends or line 251 has begun.
+fn read_piece<R: Read>(
+    reader: &mut R,
+    before: Reading,
+    text: &mut [u8],
+) -> io::Result<ControlFlow<Reading, Reading>>
     requires size { length text.old ≡ longest_list + 1 }
     requires within { before.bytes ≤ length text.old }
     requires judged { Judged text.old before.bytes before.judge }
-    ensures within { result.bytes ≤ length text.old }
-    ensures judged { Judged text.new result.bytes result.judge }
+    ensures { IfOk result (Reached text.new) }
 {
     let place = next_place(before.bytes, text.len());
-    let read = system::read_more(reader, place, text);
-    let bytes = read.bytes;
+    let Some(bytes) = system::read_more(reader, place, text)? else {
+        let judge = before.judge;
+        return Ok(ControlFlow::Break(Reading {
+            judge,
+            bytes: place,
+        }));
+    };
     let judge = lists::judge_piece(before.judge, &text[place..bytes]);
-    Reading {
-        judge,
-        bytes,
-        is_over: read.is_over | lists::is_over(judge),
-        error: read.error,
+    if lists::is_over(judge) {
+        return Ok(ControlFlow::Break(Reading { judge, bytes }));
     }
+    Ok(ControlFlow::Continue(Reading { judge, bytes }))
 }
 
-// Reads the list until it ends, line 251 has begun or a read fails.
-fn read_list<R: Read>(reader: &mut R, text: &mut [u8]) -> Reading
+// Reads the list until it ends or line 251 has begun.
+fn read_list<R: Read>(reader: &mut R, text: &mut [u8]) -> io::Result<Reading>
     requires { length text.old ≡ longest_list + 1 }
-    ensures in_bounds { IsPrefixLen result.bytes text.new }
-    ensures accepts { Accepts text.new result.bytes result.judge }
+    ensures in_bounds { IfOk result (λ reading. IsPrefixLen reading.bytes text.new) }
+    ensures accepts { IfOk result (λ reading. Accepts text.new reading.bytes reading.judge) }
 {
     let mut reading = Reading {
         judge: lists::start(),
         bytes: 0,
-        is_over: false,
-        error: None,
     };
     for _ in 0..MOST_READS {
-        if reading.is_over {
-            return reading;
+        match read_piece(reader, reading, text)? {
+            ControlFlow::Continue(more) => reading = more,
+            ControlFlow::Break(whole) => return Ok(whole),
         }
-        reading = read_piece(reader, reading, text);
     }
-    if !reading.is_over {
-        reading.error = Some(Error::from_raw_os_error(INTERRUPTED));
-    }
-    reading
+    Err(system::given_up())
 }
 
 // ---- the files
 
-// What becomes of a file that was read. Of one that is too long, its length alone decides.
-fn outcome_of_read(length: usize, room: &[u8]) -> Outcome
-    requires { Kept length room.now }
+// What becomes of a file that is not too long.
+fn outcome_of_bytes(file: &[u8]) -> Outcome
     ensures of_file { OfFile result }
-    ensures counted { (f : List ℕ) → IsRead length room.now f → result ≡ Opened (file_counted f) }
+    ensures counted { result ≡ Opened (file_counted file.now) }
 {
-    if LONGEST_FILE < length {
-        return Outcome::Opened(reports::refuse_length(length));
-    }
-    Outcome::Opened(reports::count(&room[..length]))
+    Outcome::Opened(reports::count(file))
 }
 
-// What becomes of a file that was opened. It is closed before this answers.
-fn outcome_of_opened<F: Source + Drop>(mut file: F, room: &mut [u8; FILE_ROOM]) -> Outcome
-    ensures { OfFile result }
+// What becomes of a file that was read. Of one that is too long, its length alone decides.
+fn outcome_of_read(file: Result<&[u8], TooLong>) -> Outcome
+    ensures of_file { OfFile result }
+    ensures counted { (f : List ℕ) → IsFile file.entry f → result ≡ Opened (file_counted f) }
 {
-    let read = system::read_file(&mut file, room);
-    if read.error.is_some() {
-        return Outcome::Unopened;
+    match file {
+        Ok(bytes) => outcome_of_bytes(bytes),
+        Err(whole) => Outcome::Opened(reports::refuse_length(whole.length)),
     }
-    outcome_of_read(read.bytes, room)
 }
 
-// What becomes of a file.
-fn outcome_of<R: Files>(files: &R, name: &[u8], room: &mut [u8; FILE_ROOM]) -> Outcome
+// What becomes of a file that can be opened and read. It is closed before this answers.
+fn open_and_count<R: Files>(
+    files: &R,
+    name: &[u8],
+    room: &mut [u8; FILE_ROOM],
+) -> io::Result<Outcome>
 where
     R::File: Source,
-    ensures { OfFile result }
+    ensures { IfOk result OfFile }
 {
-    if !system::is_file(files, name) {
-        return Outcome::Unopened;
-    }
-    match system::open(files, name) {
-        None => Outcome::Unopened,
-        Some(file) => outcome_of_opened(file, room),
-    }
+    let mut file = system::open(files, name)?;
+    let length = system::read_file(&mut file, room)?;
+    Ok(outcome_of_read(system::file_in(room, length)))
 }
 
 // ---- the sheet
 
-// Prints the line that a call has written to its room, and answers whether it could.
-fn print_line<W: Write, E: Write>(out: &mut W, err: &mut E, answer: Answer, room: &[u8]) -> bool
-    requires { Within (length room.now) answer }
-{
-    // As many bytes are lent as each call wants, so none refuses.
-    if let Answer::Done(n) = answer {
-        return system::print(
-            out,
-            err,
-            &room[..n],
-            b"night: the sheet could not be written whole; error ",
-        );
-    }
-    false
+// Where the sheet is printed, and whence its files come, with room for one of them.
+#[derive(Drop)]
+struct Sheet<'a, R, W> {
+    files: &'a R,
+    out: W,
+    room: [u8; FILE_ROOM],
 }
 
-fn print_outcome<W: Write, E: Write>(out: &mut W, err: &mut E, outcome: Outcome) -> bool {
-    let mut line = [0u8; LINE_BYTES];
-    let answer = lines::outcome_line(outcome, &mut line);
-    print_line(out, err, answer, &line)
-}
-
-fn print_refusal<W: Write, E: Write>(out: &mut W, err: &mut E, refusal: Refusal) -> bool {
-    let mut line = [0u8; LINE_BYTES];
-    let answer = lines::refused_line(refusal, &mut line);
-    print_line(out, err, answer, &line)
-}
-
-fn print_totals<W: Write, E: Write>(out: &mut W, err: &mut E, totals: Totals) -> bool {
-    let mut line = [0u8; TOTALS_BYTES];
-    let answer = lines::totals_line(totals, &mut line);
-    print_line(out, err, answer, &line)
-}
-
-// What printing a line for each file came to: the totals of all of them, or a line that could not be written.
-enum Printed {
-    Whole(Totals),
-    Stopped,
-}
-
-// Prints the line of each file of a list that is accepted, up to one that cannot be written.
-fn print_files<R: Files, W: Write, E: Write>(
-    files: &R,
-    out: &mut W,
-    err: &mut E,
-    text: &[u8],
-    room: &mut [u8; FILE_ROOM],
-) -> Printed
+impl<R: Files, W: Write> Sheet<'_, R, W>
 where
     R::File: Source,
-    requires { list_checked text.now ≡ Fine }
-    ensures { OfList text.now result }
 {
-    let mut totals = totals::start();
-    let mut place = 0;
-    while place < text.len() {
-        let end = lists::line_end(text, place);
-        let outcome = outcome_of(files, &text[place..end], room);
-        if !print_outcome(out, err, outcome) {
-            return Printed::Stopped;
+    // What becomes of a file.
+    fn outcome_of(&mut self, name: &[u8]) -> Outcome
+        ensures { OfFile result }
+    {
+        if !system::is_file(self.files, name) {
+            return Outcome::Unopened;
         }
-        totals = totals::add(totals, outcome);
-        place = end + 1;
+        open_and_count(self.files, name, &mut self.room).unwrap_or(Outcome::Unopened)
     }
-    Printed::Whole(totals)
+
+    // Prints the line that a call has written to its room.
+    fn print_line(&mut self, answer: Answer, room: &[u8]) -> Result<(), Failure>
+        requires { Within (length room.now) answer }
+    {
+        let Answer::Done(n) = answer else {
+            // As many bytes are lent as each call wants, so none refuses.
+            unreachable!();
+        };
+        system::write_line(&mut self.out, &room[..n]).map_err(Failure::Unwritten)
+    }
+
+    fn print_outcome(&mut self, outcome: Outcome) -> Result<(), Failure> {
+        let mut line = [0u8; LINE_BYTES];
+        let answer = lines::outcome_line(outcome, &mut line);
+        self.print_line(answer, &line)
+    }
+
+    fn print_refusal(&mut self, refusal: Refusal) -> Result<(), Failure> {
+        let mut line = [0u8; LINE_BYTES];
+        let answer = lines::refused_line(refusal, &mut line);
+        self.print_line(answer, &line)
+    }
+
+    fn print_totals(&mut self, totals: Totals) -> Result<(), Failure> {
+        let mut line = [0u8; TOTALS_BYTES];
+        let answer = lines::totals_line(totals, &mut line);
+        self.print_line(answer, &line)
+    }
+
+    // Prints the line of each file of a list that is accepted, up to one that cannot be written. Answers the totals of all of them.
+    // (A line is as long as it is, so `while` steps from one to the next. std's split gives an empty piece more behind a line end.)
+    fn print_files(&mut self, text: &[u8]) -> Result<Totals, Failure>
+        requires { list_checked text.now ≡ Fine }
+        ensures { IfOk result (OfList text.now) }
+    {
+        let mut totals = totals::start();
+        let mut place = 0;
+        while place < text.len() {
+            let end = lists::line_end(text, place);
+            let outcome = self.outcome_of(&text[place..end]);
+            self.print_outcome(outcome)?;
+            totals = totals::add(totals, outcome);
+            place = end + 1;
+        }
+        Ok(totals)
+    }
+
+    // Prints the sheet of a list that is accepted. Where a line cannot be written it has no last line.
+    fn print(&mut self, text: &[u8]) -> Result<(), Failure>
+        requires { list_checked text.now ≡ Fine }
+    {
+        let totals = self.print_files(text)?;
+        self.print_totals(totals)
+    }
 }
 
-// Prints the sheet of a list that is accepted, and answers whether it could. Where a line could not be written it has no last line.
-fn print_sheet<R: Files, W: Write, E: Write>(
-    files: &R,
-    out: &mut W,
-    err: &mut E,
-    text: &[u8],
-    room: &mut [u8; FILE_ROOM],
-) -> bool
+// Reads the list and prints its sheet, or the line of its refusal.
+fn night<L: Read, R: Files, W: Write + Drop>(list: &mut L, files: &R, out: W) -> Result<(), Failure>
 where
     R::File: Source,
-    requires { list_checked text.now ≡ Fine }
 {
-    match print_files(files, out, err, text, room) {
-        Printed::Whole(totals) => print_totals(out, err, totals),
-        Printed::Stopped => false,
-    }
-}
-
-// How the program ends, by whether all that it had to print could be written.
-fn exit_code(is_whole: bool) -> ExitCode {
-    if is_whole {
-        ExitCode::SUCCESS
-    } else {
-        ExitCode::FAILURE
+    let mut text = list_room();
+    let reading = read_list(list, &mut text).map_err(Failure::Unread)?;
+    let mut sheet = Sheet {
+        files,
+        out,
+        room: system::file_room(),
+    };
+    match lists::verdict(reading.judge) {
+        Checked::Fine => sheet.print(&text[..reading.bytes]),
+        Checked::Refused(refusal) => sheet.print_refusal(refusal),
     }
 }
 
 fn main(rt: HostRuntime) -> ExitCode {
-    let mut out = rt.stdout();
-    let mut err = rt.stderr();
-    if !system::has_no_argument(&rt, &mut err, b"usage: night < LIST\n") {
+    if system::has_argument(&rt) {
+        let _ = eprintln!(rt; "usage: night < LIST");
         return ExitCode::SUCCESS;
     }
-    let mut text = list_room();
-    let reading = read_list(&mut rt.stdin(), &mut text);
-    if let Some(error) = reading.error {
-        system::complain(
-            &mut err,
-            b"night: no sheet is printed, since standard input could not be read; error ",
-            error,
-        );
-        return ExitCode::FAILURE;
-    }
-    if let Checked::Refused(refusal) = lists::verdict(reading.judge) {
-        return exit_code(print_refusal(&mut out, &mut err, refusal));
-    }
-    let n = reading.bytes;
-    let mut room = system::file_room();
-    exit_code(print_sheet(&rt, &mut out, &mut err, &text[..n], &mut room))
+    system::exit_code(&rt, night(&mut rt.stdin(), &rt, rt.stdout()))
 }

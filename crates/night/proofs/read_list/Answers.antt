@@ -9,14 +9,7 @@ loop-init g c = record {
   judged = none_judged c.args.text.now _ c.start.ensures;
 }
 
-pub returns-then-reading-clause-accepts : goal.returns-then-reading-clause-accepts
-returns-then-reading-clause-accepts g c =
-    judged_accepts c.loop.text c.loop.reading.bytes c.loop.reading.judge c.loop.invariant.judged
-
-pub returns-then-not-reading-clause-accepts : goal.returns-then-not-reading-clause-accepts
-returns-then-not-reading-clause-accepts g c =
-    judged_accepts c.loop.text c.loop.reading.bytes c.loop.reading.judge c.loop.invariant.judged
-
-pub returns-else-not-reading-clause-accepts : goal.returns-else-not-reading-clause-accepts
-returns-else-not-reading-clause-accepts g c =
-    judged_accepts c.loop.text c.loop.reading.bytes c.loop.reading.judge c.loop.invariant.judged
+pub returns-in-Break-clause-accepts : goal.returns-in-Break-clause-accepts
+returns-in-Break-clause-accepts g c =
+    let (fit, judged) = rw c.in-Break.is at c.in_ok-more.ensures in
+    judged_accepts c.read_piece.new.text c.in-Break.whole.bytes c.in-Break.whole.judge judged

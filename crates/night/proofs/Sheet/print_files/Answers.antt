@@ -2,7 +2,7 @@ use Rattle.std.proofs.Common.{◌≡◌, ℕ, ◌<◌, ◌≤◌, List, arith, l
 use Rattle.lists.specs.Names.{line_end}
 use Rattle.lists.proofs.Ends.{end_within}
 use Rattle.night.proofs.Sheets.{sheet_starts, sheet_goes_on, sheet_ends}
-use Rattle.night.proofs.print_files.Goals as goal
+use Rattle.night.proofs.Sheet.print_files.Goals as goal
 
 -- the line at hand lies in the list
 line_within : (text : List ℕ) (place end : ℕ) → place < length text → end ≡ line_end text place → (place ≤ end) × (end ≤ length text)

@@ -1,6 +1,6 @@
 use Rattle.std.proofs.Common.{◌-◌, length}
 use Rattle.night.proofs.Sheets.{SoFar}
-use Rattle.night.proofs.print_files.Given as goal
+use Rattle.night.proofs.Sheet.print_files.Given as goal
 
 abbrev pub invariant-loop-place : goal.invariant-loop-place
 invariant-loop-place g l = SoFar l.text l.place l.totals
