@@ -50,7 +50,8 @@ pub fn given_up() -> Error {
 pub fn read_more<R: Read>(reader: &mut R, bytes: usize, input: &mut [u8]) -> Result<Option<usize>>
     ensures kept { take bytes input.new ≡ take bytes input.old }
     ensures more { IfOk result (λ read. IfSome read (ReadsOn bytes input.old input.new)) }
-    ensures taken { IfOk result (λ read. IfSome read (λ n. Consumes (R.remaining reader.old) (R.remaining reader.new) (drop bytes (take n input.new)))) }
+    ensures taken { IfOk result (λ read. IfSome read (λ n.
+        Consumes (R.remaining reader.old) (R.remaining reader.new) (drop bytes (take n input.new)))) }
     ensures over { IfOk result (λ read. IfNone read (Keeps (R.remaining reader.old) (R.remaining reader.new))) }
     ensures ended { IfOk result (λ read. IfNone read (bytes < length input.old → IsAtEnd (R.remaining reader.new))) }
     ensures failed { IfErr result (λ e. (error_kind e ≢ ErrorKind.Interrupted) × Keeps (R.remaining reader.old) (R.remaining reader.new)) }
