@@ -4,7 +4,7 @@ use Prim.Native.Nat.{ℕ, ◌≤◌}
 use native.Mathlib.Omega.{arith}
 use mathlib.Core.Path.{◌≡◌, sym, ap, ◌∙◌}
 use mathlib.Core.List.{List}
-use lib.ListN.{length}
+use lib.ListN.{length, get_or}
 use Rattle.limits.specs.Limits.{width, most_samples}
 use Rattle.theory.specs.Lists.{tab}
 use Rattle.theory.specs.Forms.{Valid}
@@ -20,7 +20,7 @@ use Rattle.refusals.proofs.Shared.{scan_fine, lent_fine}
 use Rattle.forms.specs.Check.{form_checked}
 use Rattle.forms.proofs.Fine.{fine_form}
 use Rattle.scans.specs.Run.{root_checked, run_checked, root_found, Root}
-use Rattle.scans.specs.Private.{value_around}
+use Rattle.scans.specs.Private.{value_around, all_left}
 use Rattle.scans.proofs.Windows.{value_filter}
 
 module _ (ts s : List ℕ) where
@@ -42,13 +42,13 @@ module _ (ts s : List ℕ) where
 
   -- it then gives what it makes of each sample and its filtered value, and the slice holds that alone
   pub run_gives : {A : Type 0} (old : List A) (make : ℕ → ℕ → A) {l r : ℕ} {new : List A} → run_checked ts s (length old) ≡ Ok tt
-      → (l ≡ before 0 held s) × (r ≡ after 0 held s) → Samples s → new ≡ tab (length s) (λ x. make x (value_around l r ts s x))
-      → Gives (run_checked ts s) (length s) (tab (length s) (λ x. make x (filtered_at held ts s x))) old new (Ok (length s))
+      → (l ≡ before 0 held s) × (r ≡ after 0 held s) → Samples s → new ≡ all_left l r make ts s
+      → Gives (run_checked ts s) (length s) (tab (length s) (λ x. make (get_or s x 0) (filtered_at held ts s x))) old new (Ok (length s))
   run_gives {A} old make {new = new} e ends small filled =
       let fine = run_fine (length old) e in
-      let given : List A = tab (length s) (λ x. make x (filtered_at held ts s x)) in
+      let given : List A = tab (length s) (λ x. make (get_or s x 0) (filtered_at held ts s x)) in
       let all : length given ≡ length s = length-tab _ _ in
       let is : new ≡ given =
-      filled ∙ ap (λ (v : ℕ → ℕ). tab (length s) (λ x. make x (v x))) (value_filter held ts s ends.0 ends.1 fine.0 small)
+      filled ∙ ap (λ (v : ℕ → ℕ). tab (length s) (λ x. make (get_or s x 0) (v x))) (value_filter held ts s ends.0 ends.1 fine.0 small)
       in
       record { answer = rw e; out = is ∙ sym (written_whole given old e (omega arith)) }

@@ -1,6 +1,6 @@
 -- Only private contracts cite this: the window that a run carries along a scan, and what a form gives around a sample of a scan that stands
 -- between two values.
-use Rattle.std.specs.Prelude.{List, ℕ, ◌+◌, eqb, ℤ, pos, ◌-ℤ◌, length, get_or}
+use Rattle.std.specs.Prelude.{List, ℕ, ◌+◌, eqb, ℤ, pos, length, get_or}
 use Rattle.limits.specs.Limits.{width, top}
 use Rattle.theory.specs.Lists.{first, tab}
 use Rattle.theory.specs.Orders.{counts}
@@ -21,13 +21,10 @@ module _ (l r : ℕ) where
   unfoldable pub value_around : List ℕ → List ℕ → ℕ → ℕ
   value_around ts s x = value counts width 0 top ts (seen window (between l r s) (pos x))
 
-  -- raw minus that
-  abbrev pub rest_around : List ℕ → List ℕ → ℕ → ℤ
-  rest_around ts s x = pos (get_or s x 0) -ℤ pos (value_around ts s x)
+  -- what a rule leaves of the two at sample x: of the raw value and of what the form gives
+  abbrev pub left_around : {A : Type 0} → (ℕ → ℕ → A) → List ℕ → List ℕ → ℕ → A
+  left_around make ts s x = make (get_or s x 0) (value_around ts s x)
 
-  -- the two at each sample
-  abbrev pub values_around : List ℕ → List ℕ → List ℕ
-  values_around ts s = tab (length s) (value_around ts s)
-
-  abbrev pub rests_around : List ℕ → List ℕ → List ℤ
-  rests_around ts s = tab (length s) (rest_around ts s)
+  -- at each sample
+  abbrev pub all_left : {A : Type 0} → (ℕ → ℕ → A) → List ℕ → List ℕ → List A
+  all_left make ts s = tab (length s) (left_around make ts s)

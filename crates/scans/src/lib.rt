@@ -7,25 +7,18 @@
 
 #![tactic(auto)]
 
-ghost use Rattle.std.specs.Prelude.{◌≡◌, ◌+◌, ◌<◌, length, get_or, pos, negsuc, ◌-ℤ◌};
+ghost use Rattle.std.specs.Prelude.{◌≡◌, ℕ, ◌+◌, ◌-◌, ◌<◌, length, get_or, pos, negsuc, ◌-ℤ◌};
 ghost use Rattle.limits.specs.Limits.{reach};
 ghost use Rattle.theory.specs.Signals.{window, between};
 ghost use Rattle.windows.specs.Columns.{position_in};
 ghost use Rattle.scans.specs.Run.{run_checked, root_found, Clean, Residue, Root};
-ghost use Rattle.scans.specs.Private.{carried, moved_on, value_around, values_around, rests_around};
+ghost use Rattle.scans.specs.Private.{carried, moved_on, value_around, all_left};
 
 use limits::{MOST_SAMPLES, REACH, WIDTH};
 use refusals::Refusal;
 use windows::Beyond;
 
 // ---- the window that a run carries
-
-// Sample k, or what stands right of the scan. Nothing else reads the scan while a window is carried along it.
-fn load(scan: &[u16], right: u16, k: usize) -> u16
-    ensures { result ≡ get_or scan.now k right }
-{
-    if k < scan.len() { scan[k] } else { right }
-}
 
 // What the window sees one sample further on: what stays in sight stands a column further left, and in the last column stands what
 // arrives.
@@ -35,29 +28,9 @@ fn take_in(near: [u16; WIDTH], arriving: u16) -> [u16; WIDTH]
     let mut seen = near;
     for i in 0..WIDTH {
         let from = windows::position(windows::column(i) + 1);
-        seen[i] = if from < WIDTH { near[from] } else { arriving };
+        seen[i] = near.get(from).copied().unwrap_or(arriving);
     }
     seen
-}
-
-// What the window sees just before the first sample: far to the left it sees what stands there alone, and then the first samples arrive.
-fn enter(scan: &[u16], left: u16, right: u16) -> [u16; WIDTH]
-    ensures { result ≡ carried window (between left right scan.now) (negsuc 0) }
-{
-    let mut near = [left; WIDTH];
-    for k in 0..REACH {
-        let next = take_in(near, load(scan, right, k));
-        near = next;
-    }
-    near
-}
-
-// What the window sees around x, from what it saw around the sample before.
-fn move_on(near: [u16; WIDTH], scan: &[u16], right: u16, x: usize) -> [u16; WIDTH]
-    requires { x < length scan.now }
-    ensures { result ≡ moved_on window near (get_or scan.now (x + reach) right) }
-{
-    take_in(near, load(scan, right, x + REACH))
 }
 
 // The sample itself: it stands in the middle.
@@ -67,54 +40,116 @@ fn middle(near: [u16; WIDTH]) -> u16
     near[windows::position(REACH)]
 }
 
+// ---- what a run leaves
+
+// What is left at a sample, of its raw and its cleaned value.
+trait Left: Copy {
+    ghost left: { ℕ → ℕ → Self };
+
+    fn left(raw: u16, cleaned: u16) -> Self
+        ensures { result ≡ left raw cleaned };
+}
+
+// A run leaves the cleaned value.
+impl Left for u16 {
+    ghost left = { λ raw cleaned. cleaned };
+
+    fn left(raw: u16, cleaned: u16) -> u16 {
+        cleaned
+    }
+}
+
+// A residue leaves raw minus cleaned.
+impl Left for i32 {
+    ghost left = { λ raw cleaned. pos raw -ℤ pos cleaned };
+
+    fn left(raw: u16, cleaned: u16) -> i32 {
+        (raw as i32) - (cleaned as i32)
+    }
+}
+
 // ---- over the whole scan
 
-// What the form gives around each sample, into a slice of as many elements.
-fn fill(terms: &[u16], scan: &[u16], ends: Beyond, out: &mut [u16])
-    requires { length out.old ≡ length scan.now }
-    ensures { out.new ≡ values_around ends.left ends.right terms.now scan.now }
-{
-    let mut near = enter(scan, ends.left, ends.right);
-    for x in 0..out.len() {
-        let here = move_on(near, scan, ends.right, x);
-        out[x] = values::value(terms, here);
-        near = here;
-    }
+// A form on a scan that stands between its ends.
+#[derive(Clone, Copy)]
+struct Run<'a> {
+    terms: &'a [u16],
+    scan: &'a [u16],
+    ends: Beyond,
 }
 
-// Raw minus cleaned.
-fn difference(raw: u16, cleaned: u16) -> i32
-    ensures { result ≡ pos raw -ℤ pos cleaned }
-{
-    (raw as i32) - (cleaned as i32)
-}
-
-// Raw minus what the form gives around each sample, into a slice of as many elements.
-fn fill_residue(terms: &[u16], scan: &[u16], ends: Beyond, out: &mut [i32])
-    requires { length out.old ≡ length scan.now }
-    ensures { out.new ≡ rests_around ends.left ends.right terms.now scan.now }
-{
-    let mut near = enter(scan, ends.left, ends.right);
-    for x in 0..scan.len() {
-        let here = move_on(near, scan, ends.right, x);
-        out[x] = difference(middle(here), values::value(terms, here));
-        near = here;
-    }
-}
-
-// The first sample that is not what the form gives around it, if there is one.
-fn find_difference(terms: &[u16], scan: &[u16], ends: Beyond) -> Option<usize>
-    ensures { result ≡ root_found (value_around ends.left ends.right terms.now scan.now) scan.now }
-{
-    let mut near = enter(scan, ends.left, ends.right);
-    for x in 0..scan.len() {
-        let here = move_on(near, scan, ends.right, x);
-        if middle(here) != values::value(terms, here) {
-            return Some(x);
+impl<'a> Run<'a> {
+    // With held ends.
+    fn held(terms: &'a [u16], scan: &'a [u16]) -> Run<'a>
+        ensures { (result.terms.now ≡ terms.now)
+            × (result.scan.now ≡ scan.now)
+            × (result.ends.left ≡ get_or scan.now 0 0)
+            × (result.ends.right ≡ get_or scan.now (length scan.now - 1) 0) }
+    {
+        Run {
+            terms,
+            scan,
+            ends: windows::hold_ends(scan),
         }
-        near = here;
     }
-    None
+
+    // Sample k, or what stands right of the scan. Nothing else reads the scan while a window is carried along it.
+    fn load(&self, k: usize) -> u16
+        ensures { result ≡ get_or self.now.scan.now k self.now.ends.right }
+    {
+        self.scan.get(k).copied().unwrap_or(self.ends.right)
+    }
+
+    // What the window sees just before the first sample: far to the left it sees what stands there alone, and then the first samples
+    // arrive.
+    fn enter(&self) -> [u16; WIDTH]
+        ensures { result ≡ carried window (between self.now.ends.left self.now.ends.right self.now.scan.now) (negsuc 0) }
+    {
+        let mut near = [self.ends.left; WIDTH];
+        for k in 0..REACH {
+            let next = take_in(near, self.load(k));
+            near = next;
+        }
+        near
+    }
+
+    // What the window sees around x, from what it saw around the sample before.
+    fn move_on(&self, near: [u16; WIDTH], x: usize) -> [u16; WIDTH]
+        requires { x < length self.now.scan.now }
+        ensures { result ≡ moved_on window near (get_or self.now.scan.now (x + reach) self.now.ends.right) }
+    {
+        take_in(near, self.load(x + REACH))
+    }
+
+    // Fills a slice of as many elements with what is left at each sample, and answers how many they are.
+    fn fill<T: Left>(&self, out: &mut [T]) -> usize
+        requires { length out.old ≡ length self.now.scan.now }
+        ensures { (out.new ≡ all_left self.now.ends.left self.now.ends.right T.left self.now.terms.now self.now.scan.now)
+            × (result ≡ length self.now.scan.now) }
+    {
+        let mut near = self.enter();
+        for (x, left) in out.iter_mut().enumerate() {
+            let here = self.move_on(near, x);
+            *left = T::left(middle(here), values::value(self.terms, here));
+            near = here;
+        }
+        self.scan.len()
+    }
+
+    // The first sample that is not what the form gives around it, if there is one.
+    fn find_difference(&self) -> Option<usize>
+        ensures { result ≡ root_found (value_around self.now.ends.left self.now.ends.right self.now.terms.now self.now.scan.now) self.now.scan.now }
+    {
+        let mut near = self.enter();
+        for x in 0..self.scan.len() {
+            let here = self.move_on(near, x);
+            if middle(here) != values::value(self.terms, here) {
+                return Some(x);
+            }
+            near = here;
+        }
+        None
+    }
 }
 
 // ---- the calls
@@ -137,8 +172,7 @@ pub fn clean(terms: &[u16], scan: &[u16], out: &mut [u16]) -> Result<usize, Refu
     ensures { Clean terms.now scan.now out.old out.new result }
 {
     admit_run(terms, scan, out.len())?;
-    fill(terms, scan, windows::hold_ends(scan), out);
-    Ok(scan.len())
+    Ok(Run::held(terms, scan).fill(out))
 }
 
 // The residue of a form on a scan: raw minus cleaned at each sample, -65,535 to 65,535, goes to out, and the answer is the number of
@@ -147,8 +181,7 @@ pub fn residue(terms: &[u16], scan: &[u16], out: &mut [i32]) -> Result<usize, Re
     ensures { Residue terms.now scan.now out.old out.new result }
 {
     admit_run(terms, scan, out.len())?;
-    fill_residue(terms, scan, windows::hold_ends(scan), out);
-    Ok(scan.len())
+    Ok(Run::held(terms, scan).fill(out))
 }
 
 // The first sample that is not its filtered value; none, where the scan is a root of the form. Refuses, in this order, a bad term, over
@@ -159,5 +192,5 @@ pub fn root(terms: &[u16], scan: &[u16]) -> Result<Option<usize>, Refusal>
 {
     forms::check(WIDTH, terms)?;
     refusals::check_scan(MOST_SAMPLES, scan.len())?;
-    Ok(find_difference(terms, scan, windows::hold_ends(scan)))
+    Ok(Run::held(terms, scan).find_difference())
 }

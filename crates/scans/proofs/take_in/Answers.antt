@@ -1,14 +1,12 @@
-use Rattle.std.proofs.Common.{rules, ℕ, ◌+◌, arith, ◌≡◌, sym, ap, ◌∙◌, length, get_or}
+use Rattle.std.proofs.Common.{rules, ℕ, ◌+◌, arith, ◌≡◌, ap, ◌∙◌, length, get_or}
 use Rattle.limits.specs.Limits.{width}
 use Rattle.theory.specs.Signals.{wide, window}
-use Rattle.theory.proofs.Lists.{get_or_inside, get_or_beyond}
 use Rattle.theory.proofs.Fills.{fill_none, fill_more}
 use Rattle.windows.specs.Columns.{position_in}
 use Rattle.scans.specs.Private.{moved_on}
 use Rattle.scans.proofs.Fills.{fill_whole}
 use Rattle.scans.proofs.Windows.{column_lt}
 use Rattle.scans.proofs.take_in.Goals as goal
-use Rattle.scans.proofs.take_in.Goals.{then-from-lt-WIDTH, else-from-lt-WIDTH}
 
 pub loop-i-init : goal.loop-i-init
 loop-i-init c = fill_none _ _
@@ -26,11 +24,7 @@ loop-i-preserved c =
     let whole : length near ≡ width = search rules in
     let is : from ≡ position_in (window.column c.loop-i.i + 1) =
     c.position-from.ensures ∙ ap (λ (k : ℕ). position_in (k + 1)) c.column.ensures in
-    let value : c.if-from-lt-WIDTH.seen ≡ get_or near from arriving =
-    elim c.if-from-lt-WIDTH.branch [
-      | then-from-lt-WIDTH w ↦ w.seen-is ∙ get_or_inside near from 0 arriving (omega (arith, w.if-from-lt-WIDTH.true))
-      | else-from-lt-WIDTH w ↦ w.seen-is ∙ sym (get_or_beyond near from arriving (omega (arith, w.if-from-lt-WIDTH.false)))
-    ] in
+    let value : c.unwrap_or.result ≡ get_or near from arriving = search rules in
     fill_more c.loop-i.invariant (omega arith) (value ∙ ap (λ (k : ℕ). get_or near k arriving) is)
 
 pub returns : goal.returns

@@ -3,12 +3,12 @@ use Rattle.theory.proofs.Lists.{first_at, any_below-at, any_below_none}
 use Rattle.scans.specs.Run.{differs, root_found}
 use Rattle.scans.specs.Private.{value_around}
 use Rattle.scans.proofs.Windows.{here_in, cleaned_in, raw_in}
-use Rattle.scans.proofs.find_difference.Goals as goal
+use Rattle.scans.proofs.Run.find_difference.Goals as goal
 
 pub returns-then-middle-value : goal.returns-then-middle-value
 unfolding differs root_found
 returns-then-middle-value c =
-    let a = c.args in
+    let a = c.args.self.now in
     let near = c.loop-x.invariant.1 in
     let here = c.move_on-here.ensures in
     let raw = raw_in near here c.middle.ensures (search rules) in
@@ -25,7 +25,7 @@ returns-then-middle-value c =
 pub loop-x-preserved : goal.loop-x-preserved
 unfolding differs
 loop-x-preserved c =
-    let a = c.args in
+    let a = c.args.self.now in
     let near = c.loop-x.invariant.1 in
     let here = c.move_on-here.ensures in
     let raw = raw_in near here c.middle.ensures (search rules) in
@@ -35,7 +35,7 @@ loop-x-preserved c =
 pub returns : goal.returns
 unfolding root_found
 returns c =
-    let a = c.args in
+    let a = c.args.self.now in
     let s = a.scan.now in
     let d = differs (value_around a.ends.left a.ends.right a.terms.now s) s in
     rw (any_below_none d (length s) (λ k l. c.loop-x.invariant.0 k (omega arith)))

@@ -1,8 +1,0 @@
--- `scans::enter` meets its contract. The loop keeps: k samples have come in. Assumes nothing.
-use Rattle.std.proofs.Common.{suc, ◌≡◌}
-use Rattle.limits.specs.Limits.{reach}
-use Rattle.scans.proofs.Windows.{carried_at}
-use Rattle.scans.proofs.enter.Given as goal
-
-abbrev pub invariant-loop-k : goal.invariant-loop-k
-invariant-loop-k l = (l.near ≡ carried_at l.left l.right l.scan l.k (suc reach))
