@@ -90,7 +90,7 @@ impl Fields {
     }
 }
 
-// The step of a code from 1 to 4.
+// The step of a code from 1 to 4; that codes are numbers in ranges here is document 01's form.
 fn change_of(code: u8, set: u16) -> Step
     ensures { result ≡ change_of code set }
 {
@@ -242,7 +242,7 @@ impl Reach {
         Reach::new(self.lo - span, self.hi + span)
     }
 
-    // Of the larger or the smaller of two signals.
+    // Of the larger or the smaller of two signals: always one.
     #[tactic(auto, unfolding(crate::specs::Machine::both_reach))]
     fn joined(self, last: Reach) -> Option<Reach>
         ensures { result ≡ within (both_reach self last) }

@@ -136,7 +136,8 @@ impl<'a> Run<'a> {
         self.scan.len()
     }
 
-    // The first sample that is not what the form gives around it, if there is one.
+    // The first sample that is not what the form gives around it, if there is one. It carries the window as `fill` does: a walk that owns
+    // it would have to count its own x, so that is no plainer.
     fn find_difference(&self) -> Option<usize>
         ensures { result ≡ root_found (value_around self.now.ends.left self.now.ends.right self.now.terms.now self.now.scan.now) self.now.scan.now }
     {
@@ -165,9 +166,9 @@ fn admit_run(terms: &[u16], scan: &[u16], lent: usize) -> Result<(), Refusal>
     refusals::check_lent(samples, lent)
 }
 
-// Runs a form on a scan: the filter at each sample goes to out, and the answer is the number of samples. Refuses, in this order, a bad
-// term, over 126 terms, 0 or over 16,384 samples, and an out that has not one element for each sample. A refusal changes no element of
-// out.
+// Runs a form on a scan: the filter at each sample goes to out, and the answer is the number of samples. Refuses 7, 8, 9, 10 in this
+// order: a bad term, over 126 terms, 0 or over 16,384 samples, and an out that has not one element for each sample. A refusal changes
+// no element of out.
 pub fn clean(terms: &[u16], scan: &[u16], out: &mut [u16]) -> Result<usize, Refusal>
     ensures { Clean terms.now scan.now out.old out.new result }
 {
@@ -176,7 +177,7 @@ pub fn clean(terms: &[u16], scan: &[u16], out: &mut [u16]) -> Result<usize, Refu
 }
 
 // The residue of a form on a scan: raw minus cleaned at each sample, -65,535 to 65,535, goes to out, and the answer is the number of
-// samples. Refuses as `clean` does; a refusal changes no element of out.
+// samples. Refuses 7, 8, 9, 10 in this order, as `clean` does; a refusal changes no element of out.
 pub fn residue(terms: &[u16], scan: &[u16], out: &mut [i32]) -> Result<usize, Refusal>
     ensures { Residue terms.now scan.now out.old out.new result }
 {
@@ -184,8 +185,8 @@ pub fn residue(terms: &[u16], scan: &[u16], out: &mut [i32]) -> Result<usize, Re
     Ok(Run::held(terms, scan).fill(out))
 }
 
-// The first sample that is not its filtered value; none, where the scan is a root of the form. Refuses, in this order, a bad term, over
-// 126 terms, and 0 or over 16,384 samples.
+// The first sample that is not its filtered value; none, where the scan is a root of the form. Refuses 7, 8, 9 in this order,
+// as `clean` does.
 #[tactic(auto, unfolding(crate::specs::Run::root_checked))]
 pub fn root(terms: &[u16], scan: &[u16]) -> Result<Option<usize>, Refusal>
     ensures { Root terms.now scan.now result }
