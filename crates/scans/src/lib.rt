@@ -139,7 +139,8 @@ impl<'a> Run<'a> {
     // The first sample that is not what the form gives around it, if there is one. It carries the window as `fill` does: a walk that owns
     // it would have to count its own x, so that is no plainer.
     fn find_difference(&self) -> Option<usize>
-        ensures { result ≡ root_found (value_around self.now.ends.left self.now.ends.right self.now.terms.now self.now.scan.now) self.now.scan.now }
+        ensures { let run = self.now in
+            result ≡ root_found (value_around run.ends.left run.ends.right run.terms.now run.scan.now) run.scan.now }
     {
         let mut near = self.enter();
         for x in 0..self.scan.len() {
