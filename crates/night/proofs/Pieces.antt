@@ -12,7 +12,7 @@ use lib.Seq.{take-add, length-take-le}
 use borrow.Author.Tests.{ltb-true, ltb-false}
 use Rattle.limits.specs.Limits.{longest_list}
 use Rattle.theory.proofs.Tests.{which}
-use Rattle.refusals.specs.declared.Checked.TheVariants.{Fine}
+use Rattle.std.specs.Prelude.{Ok}
 use Rattle.lists.specs.declared.Judge.{Judge}
 use Rattle.lists.specs.Judge.{fresh, judged, verdict_of}
 use Rattle.lists.specs.Names.{list_checked}
@@ -104,9 +104,9 @@ module _ (old new : List ℕ) (bytes n : ℕ) where
 pub judged_accepts : (slice : List ℕ) (bytes : ℕ) (judge : Judge) → Judged slice bytes judge → Accepts slice bytes judge
 judged_accepts slice bytes judge (pieces, e, lies) fine = go lies
   where
-    whole : list_checked (flatten pieces) ≡ Fine
+    whole : list_checked (flatten pieces) ≡ Ok tt
     whole = sym (cut_anywhere pieces) ∙ sym (ap verdict_of e) ∙ fine
 
-    go : (flatten pieces ≡ take bytes slice) ⊎ (longest_list < length (flatten pieces)) → list_checked (take bytes slice) ≡ Fine
+    go : (flatten pieces ≡ take bytes slice) ⊎ (longest_list < length (flatten pieces)) → list_checked (take bytes slice) ≡ Ok tt
     go (inl same) = sym (ap list_checked same) ∙ whole
     go (inr long) = absurd (omega (arith, accepted_short (flatten pieces) whole))

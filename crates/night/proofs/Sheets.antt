@@ -10,9 +10,7 @@ use native.Mathlib.Omega.{arith}
 use lib.ListN.{length, drop, length-append, drop_of_length-le}
 use borrow.Author.Tests.{eq-eqb}
 use Rattle.limits.specs.Limits.{most_names}
-use Rattle.refusals.specs.declared.Answer.{Answer}
-use Rattle.refusals.specs.declared.Answer.TheVariants.{Done, Refused}
-use Rattle.refusals.specs.declared.Checked.TheVariants.{Fine}
+use Rattle.refusals.specs.declared.Refusal.{Refusal}
 use Rattle.refusals.specs.Shared.{lent_checked}
 use Rattle.lists.specs.Names.{lines_of, line_end, list_checked}
 use Rattle.lists.proofs.Ends.{lines_walked}
@@ -30,14 +28,13 @@ use Rattle.totals.proofs.Nights.{night_exact}
 use Rattle.night.specs.Private.{Within, OfList}
 
 -- a line lies in the room that its call was lent, where that is as large as the call wants
-pub line_within : (room : ℕ) (text old new : List ℕ) (r : Answer) → length old ≡ room → Writes room text old new r → length new ≡ length old
+pub line_within : (room : ℕ) (text old new : List ℕ) (r : Result ℕ Refusal) → length old ≡ room → Writes room text old new r → length new ≡ length old
     → Within (length new) r
 unfolding lent_checked
-line_within room text old new (Done n) e p same = line_fits text old new n p same
-line_within room text old new (Refused r) e p same =
+line_within room text old new (Ok n) e p same = line_fits text old new n p same
+line_within room text old new (Err r) e p same =
     let never = rw (e, eq-eqb room room refl) at p.answer in
-    let z : ◌≡◌ {A = ℕ} 0 1 = cc in
-    absurd (omega arith)
+    absurd (cc)
 
 -- a file that was not opened or not read is not opened
 pub opened_or : {E : Type 0} (r : Result Outcome E) → IfOk r OfFile → OfFile (result_unwrap_or r Unopened)
@@ -72,7 +69,7 @@ sheet_goes_on list place totals o h is (outcomes, each, e, count) =
     go p (inr m) = rw (Memᴰ.eq_of_singleton m) is
 
 -- at the list's end every line has its outcome, and the totals are exact
-pub sheet_ends : (list : List ℕ) (place : ℕ) (totals : Totals) → list_checked list ≡ Fine → length list ≤ place → SoFar list place totals
+pub sheet_ends : (list : List ℕ) (place : ℕ) (totals : Totals) → list_checked list ≡ Ok tt → length list ≤ place → SoFar list place totals
     → OfList list totals
 unfolding lines_of
 sheet_ends list place totals fine h (outcomes, each, e, count) =

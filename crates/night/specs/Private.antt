@@ -4,9 +4,8 @@ use mathlib.Core.List.{List, foldl, flatten}
 use Rattle.std.specs.declared.ops.ControlFlow.{ControlFlow}
 use Rattle.std.specs.declared.ops.ControlFlow.TheVariants.{Continue, Break}
 use Rattle.limits.specs.Limits.{longest_list}
-use Rattle.refusals.specs.declared.Answer.{Answer}
-use Rattle.refusals.specs.declared.Answer.TheVariants.{Done, Refused}
-use Rattle.refusals.specs.declared.Checked.TheVariants.{Fine}
+use Rattle.std.specs.Prelude.{Result, Ok, Err}
+use Rattle.refusals.specs.declared.Refusal.{Refusal}
 use Rattle.lists.specs.declared.Judge.{Judge}
 use Rattle.lists.specs.Judge.{fresh, judged, verdict_of}
 use Rattle.lists.specs.Names.{lines_of, list_checked}
@@ -34,12 +33,12 @@ Reached slice (Break reading) = (reading.bytes ≤ length slice) × Judged slice
 
 -- where the judge accepts, the first bytes of the slice are a list that is accepted
 abbrev pub Accepts : List ℕ → ℕ → Judge → Type 0
-Accepts slice bytes judge = verdict_of judge ≡ Fine → list_checked (take bytes slice) ≡ Fine
+Accepts slice bytes judge = verdict_of judge ≡ Ok tt → list_checked (take bytes slice) ≡ Ok tt
 
 -- the line that a call has written lies in its room, and the call does not refuse
-abbrev pub Within : ℕ → Answer → Type 0
-Within room (Done n) = n ≤ room
-Within room (Refused r) = ⊥
+abbrev pub Within : ℕ → Result ℕ Refusal → Type 0
+Within room (Ok n) = n ≤ room
+Within room (Err r) = ⊥
 
 -- the totals are those of one outcome for each line of the list
 abbrev pub OfList : List ℕ → Totals → Type 0

@@ -11,10 +11,10 @@
 // sheet where standard error is empty.
 #![tactic(auto)]
 
-ghost use Rattle.std.specs.Prelude.{◌≡◌, List, ℕ, ◌+◌, ◌≤◌, length, IfOk};
+ghost use Rattle.std.specs.Prelude.{◌≡◌, List, ℕ, ◌+◌, ◌≤◌, length, IfOk, Ok};
 ghost use Rattle.io.specs.Counts.{IsPrefixLen};
 ghost use Rattle.limits.specs.Limits.{longest_list};
-ghost use Rattle.refusals.specs.declared.Checked.TheVariants.{Fine};
+ghost use Rattle.refusals.specs.Numbers.{noticed};
 ghost use Rattle.reports.specs.Counts.{file_counted};
 ghost use Rattle.lists.specs.Names.{list_checked};
 ghost use Rattle.totals.specs.declared.Outcome.TheVariants.{Opened};
@@ -24,7 +24,7 @@ ghost use Rattle.night.specs.Private.{next_place, Judged, Reached, Accepts, With
 
 use limits::{LINE_BYTES, LONGEST_LIST, TOTALS_BYTES};
 use lists::Judge;
-use refusals::{Answer, Checked, Refusal};
+use refusals::Refusal;
 use std::fmt::{self, Display, Formatter};
 use std::io::{self, Error, Read, Write};
 use std::ops::ControlFlow;
@@ -133,19 +133,19 @@ fn read_list<R: Read>(reader: &mut R, text: &mut [u8]) -> io::Result<Reading>
 // What becomes of a file that is not too long.
 fn outcome_of_bytes(file: &[u8]) -> Outcome
     ensures of_file { OfFile result }
-    ensures counted { result ≡ Opened (file_counted file.now) }
+    ensures counted { result ≡ Opened (noticed (file_counted file.now)) }
 {
-    Outcome::Opened(reports::count(file))
+    Outcome::from(reports::count(file))
 }
 
 // What becomes of a file that was read. Of one that is too long, its length alone decides.
 fn outcome_of_read(file: Result<&[u8], TooLong>) -> Outcome
     ensures of_file { OfFile result }
-    ensures counted { (f : List ℕ) → IsFile file.entry f → result ≡ Opened (file_counted f) }
+    ensures counted { (f : List ℕ) → IsFile file.entry f → result ≡ Opened (noticed (file_counted f)) }
 {
     match file {
         Ok(bytes) => outcome_of_bytes(bytes),
-        Err(whole) => Outcome::Opened(reports::refuse_length(whole.length)),
+        Err(whole) => Outcome::from(reports::refuse_length(whole.length)),
     }
 }
 
@@ -189,10 +189,10 @@ where
     }
 
     // Prints the line that a call has written to its room.
-    fn print_line(&mut self, answer: Answer, room: &[u8]) -> Result<(), Failure>
+    fn print_line(&mut self, answer: Result<usize, Refusal>, room: &[u8]) -> Result<(), Failure>
         requires { Within (length room.now) answer }
     {
-        let Answer::Done(n) = answer else {
+        let Ok(n) = answer else {
             // As many bytes are lent as each call wants, so none refuses.
             unreachable!();
         };
@@ -205,12 +205,6 @@ where
         self.print_line(answer, &line)
     }
 
-    fn print_refusal(&mut self, refusal: Refusal) -> Result<(), Failure> {
-        let mut line = [0u8; LINE_BYTES];
-        let answer = lines::refused_line(refusal, &mut line);
-        self.print_line(answer, &line)
-    }
-
     fn print_totals(&mut self, totals: Totals) -> Result<(), Failure> {
         let mut line = [0u8; TOTALS_BYTES];
         let answer = lines::totals_line(totals, &mut line);
@@ -220,7 +214,7 @@ where
     // Prints the line of each file of a list that is accepted, up to one that cannot be written. Answers the totals of all of them.
     // (A line is as long as it is, so `while` steps from one to the next. std's split gives an empty piece more behind a line end.)
     fn print_files(&mut self, text: &[u8]) -> Result<Totals, Failure>
-        requires { list_checked text.now ≡ Fine }
+        requires { list_checked text.now ≡ Ok tt }
         ensures { IfOk result (OfList text.now) }
     {
         let mut totals = totals::start();
@@ -237,7 +231,7 @@ where
 
     // Prints the sheet of a list that is accepted. Where a line cannot be written it has no last line.
     fn print(&mut self, text: &[u8]) -> Result<(), Failure>
-        requires { list_checked text.now ≡ Fine }
+        requires { list_checked text.now ≡ Ok tt }
     {
         let totals = self.print_files(text)?;
         self.print_totals(totals)
@@ -257,8 +251,9 @@ where
         room: system::file_room(),
     };
     match lists::verdict(reading.judge) {
-        Checked::Fine => sheet.print(&text[..reading.bytes]),
-        Checked::Refused(refusal) => sheet.print_refusal(refusal),
+        Ok(()) => sheet.print(&text[..reading.bytes]),
+        // Its line is that of a file with this refusal.
+        Err(refusal) => sheet.print_outcome(Outcome::from(Err(refusal))),
     }
 }
 

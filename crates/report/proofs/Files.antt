@@ -4,8 +4,6 @@ use Rattle.std.specs.Borrow.{Bor}
 use lib.ListN.{length-replicate}
 use Rattle.limits.specs.Limits.{line_bytes}
 use Rattle.refusals.specs.Shared.{lent_checked}
-use Rattle.refusals.specs.declared.Answer.{Answer}
-use Rattle.refusals.specs.declared.Answer.TheVariants.{Refused}
 use Rattle.refusals.specs.declared.Refusal.{Refusal}
 use Rattle.lines.specs.Lines.{Line}
 use Rattle.system.specs.declared.long.TooLong.{TooLong}
@@ -17,9 +15,8 @@ some_file (Ok bytes) = (bytes.now, refl)
 some_file (Err whole) = (replicate whole.length 0, length-replicate whole.length 0)
 
 -- where as many bytes are lent as the call wants, it does not refuse
-pub line_given : (f old new : List ℕ) (r : Answer) (q : Refusal) → length old ≡ line_bytes → Line f old new r → r ≡ Refused q → ⊥
+pub line_given : (f old new : List ℕ) (r : Result ℕ Refusal) (q : Refusal) → length old ≡ line_bytes → Line f old new r → r ≡ Err q → ⊥
 unfolding lent_checked
 line_given f old new r q e p refused =
     let never = rw e at (sym refused ∙ p.answer) in
-    let z : ◌≡◌ {A = ℕ} 0 1 = cc in
-    absurd (omega arith)
+    absurd (cc)

@@ -11,7 +11,7 @@ ghost use Rattle.lines.specs.Lines.{Line};
 ghost use Rattle.system.specs.Reads.{IsFile};
 
 use limits::LINE_BYTES;
-use refusals::Answer;
+use refusals::Refusal;
 use std::fmt::{self, Display, Formatter};
 use std::io::{Error, Write};
 use std::process::ExitCode;
@@ -43,13 +43,13 @@ impl Display for Failure {
 }
 
 // Writes the line of a file. Of one that is too long, its length alone decides.
-fn write_line(file: Result<&[u8], TooLong>, line: &mut [u8]) -> Answer
+fn write_line(file: Result<&[u8], TooLong>, line: &mut [u8]) -> Result<usize, Refusal>
     ensures { (f : List ℕ) → IsFile file.entry f → Line f line.old line.new result }
 {
     match file {
         Ok(bytes) => lines::line(bytes, line),
         Err(whole) => {
-            let outcome = Outcome::Opened(reports::refuse_length(whole.length));
+            let outcome = Outcome::from(reports::refuse_length(whole.length));
             lines::outcome_line(outcome, line)
         }
     }
@@ -61,7 +61,7 @@ fn report<S: Source, W: Write>(input: &mut S, out: &mut W) -> Result<(), Failure
     let length = system::read_file(input, &mut room).map_err(Failure::Unread)?;
     let mut line = [0u8; LINE_BYTES];
     let file = system::file_in(&room, length);
-    let Answer::Done(n) = write_line(file, &mut line) else {
+    let Ok(n) = write_line(file, &mut line) else {
         // As many bytes are lent as the call wants, so it does not refuse.
         unreachable!();
     };

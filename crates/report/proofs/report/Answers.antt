@@ -12,9 +12,9 @@ unreachable-requires g c =
 pub slice_bounds-line-end : goal.slice_bounds-line-end
 slice_bounds-line-end g c =
     let file = some_file c.file_in-file.result in
-    line_fits _ _ _ c.in-Done.n (c.in-Done.ensures file.0 file.1) c.write_line.auto.line
+    line_fits _ _ _ c.in-Ok.n (c.in-Ok.ensures file.0 file.1) c.write_line.auto.line
 
 pub slice_bounds-write_line-end-2 : goal.slice_bounds-write_line-end-2
 slice_bounds-write_line-end-2 g c =
     let file = some_file c.file_in-file.result in
-    sym (length-take-le c.in-Done.n c.write_line.new.line (line_fits _ _ _ c.in-Done.n (c.in-Done.ensures file.0 file.1) c.write_line.auto.line))
+    sym (length-take-le c.in-Ok.n c.write_line.new.line (line_fits _ _ _ c.in-Ok.n (c.in-Ok.ensures file.0 file.1) c.write_line.auto.line))
