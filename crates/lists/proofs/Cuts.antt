@@ -4,7 +4,7 @@ use Prim.Native.Nat.{ℕ, suc, ◌+◌, ◌≤◌}
 use native.Mathlib.Nat.{zero-add, add-zero}
 use native.Mathlib.Omega.{arith}
 use mathlib.Core.Path.{◌≡◌, refl, sym, ap, ◌∙◌}
-use mathlib.Core.Bool.{Bool, true, false, cond}
+use mathlib.Core.Bool.{Bool, true, false}
 use mathlib.Core.List.{List, [], ◌∷◌, ◌++◌, map, flatten, foldl}
 use mathlib.Core.Logic.{◌⊎◌, inl, inr}
 use lib.Dec.{ltb}
@@ -19,7 +19,9 @@ use Rattle.refusals.specs.Refusals.{refuse_if}
 use Rattle.refusals.proofs.Checks.{refuse_no, and_then_fine}
 use Rattle.lists.specs.declared.Judge.{Judge}
 use Rattle.lists.specs.Names.{is_line_end, lines_of, is_bad_length, is_bad_line, list_checked}
-use Rattle.lists.specs.Judge.{fresh, ended, grown, closed, is_over, stepped, judged, verdict_of}
+use Rattle.lists.specs.Judge.{fresh, ended, grown, closed, is_over, stepped, judged, verdict_of, bad_name}
+use Rattle.std.specs.Bool.{then_some}
+use Rattle.std.proofs.lemmas.List.Sums.{fold-append}
 use Rattle.lists.proofs.Judges.{over_same}
 use Rattle.lists.proofs.Flags.{is_bad, counted, flags, flags_text, flags_begun, marks, marks_first}
 
@@ -67,7 +69,7 @@ unfolding grown
 tells_grown j J fs t = record { over = t.over; count = t.count; mark = t.mark }
 
 tells : (j : Judge) (text : List ℕ) → Tells j (judged j text) (flags j.bytes text)
-unfolding flags judged stepped ended grown
+unfolding flags stepped ended grown
 tells j [] = tells_none j
 tells j (x ∷ text) = go (which (is_over j)) (which (is_line_end x)) (tells (ended j) text) (tells (grown j) text)
   where
@@ -96,9 +98,8 @@ names_counted text h = (told text).count h ∙ zero-add _ ∙ length-map (lines_
 many_lines : (text : List ℕ) → is_over (judged fresh text) ≡ ltb most_names (length (lines_of text))
 many_lines text = (told text).over ∙ ap (ltb most_names) (zero-add _ ∙ length-map (lines_of text) is_bad)
 
--- a place that is 0 where nothing is refused
-by_place : (b : Bool) (k : ℕ) → refuse_if (ltb 0 (cond b (k + 1) 0)) (BadName (cond b (k + 1) 0)) ≡ refuse_if b (BadName (k + 1))
-by_place true k = rw (lt-ltb 0 (k + 1) (omega arith))
+by_place : (b : Bool) (k : ℕ) → bad_name (then_some b k) ≡ refuse_if b (BadName k)
+by_place true k = refl
 by_place false k = refl
 
 pub verdict_whole : (text : List ℕ) → verdict_of (judged fresh text) ≡ list_checked text
@@ -112,20 +113,14 @@ verdict_whole text = go (which (is_over (judged fresh text)))
     go (inl o) = rw (← many_lines text, o)
     go (inr o) =
         rw (← many_lines text, o, (told text).mark o ∙ marks_first 0 lines, zero-add (first (is_bad_line lines) (length lines)))
-        (by_place (any_below (is_bad_line lines) (length lines)) (first (is_bad_line lines) (length lines)))
+        (by_place (any_below (is_bad_line lines) (length lines)) (first (is_bad_line lines) (length lines) + 1))
 
 -- ---- piece by piece
 
--- a text in two pieces
-judged-append : (j : Judge) (text more : List ℕ) → judged j (text ++ more) ≡ judged (judged j text) more
-unfolding judged
-judged-append j [] more = refl
-judged-append j (b ∷ text) more = judged-append (stepped j b) text more
-
 judged_pieces : (j : Judge) (pieces : List (List ℕ)) → foldl judged j pieces ≡ judged j (flatten pieces)
-unfolding judged flatten
+unfolding flatten
 judged_pieces j [] = refl
-judged_pieces j (piece ∷ pieces) = judged_pieces (judged j piece) pieces ∙ sym (judged-append j piece (flatten pieces))
+judged_pieces j (piece ∷ pieces) = judged_pieces (judged j piece) pieces ∙ sym (fold-append stepped j piece (flatten pieces))
 
 -- the verdict of the judge that went through the pieces of a text, one after the other, is the whole text's
 pub cut_anywhere : (pieces : List (List ℕ)) → verdict_of (foldl judged fresh pieces) ≡ list_checked (flatten pieces)
@@ -144,6 +139,6 @@ over_stays pieces more e =
     let o = sym (ap is_over (judged_pieces fresh pieces)) ∙ e in (
       rw e,
       sym (verdict_whole (flatten pieces ++ more))
-          ∙ ap verdict_of (judged-append fresh (flatten pieces) more ∙ over_same (judged fresh (flatten pieces)) more o)
+          ∙ ap verdict_of (fold-append stepped fresh (flatten pieces) more ∙ over_same (judged fresh (flatten pieces)) more o)
           ∙ rw o,
     )

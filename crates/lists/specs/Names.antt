@@ -1,5 +1,6 @@
 -- A list of file names: "one to a line (names of 1 to 255 bytes, at most 250 lines, the last line end optional)". A text is its bytes.
-use Rattle.std.specs.Prelude.{ℕ, ◌+◌, ◌-◌, ◌≡◌, Bool, cond, ◌||◌, List, [], ◌∷◌, eqb, ltb, length, get_or}
+use Rattle.std.specs.Prelude.{ℕ, ◌+◌, ◌≡◌, Bool, cond, ◌||◌, List, [], ◌∷◌, eqb, ltb, length, get_or, drop}
+use Rattle.std.specs.List.{position_or_len}
 use Rattle.limits.specs.Limits.{most_names, longest_name}
 use Rattle.theory.specs.Lists.{first, any_below}
 use Rattle.std.specs.Prelude.{Result, Ok}
@@ -43,4 +44,4 @@ CheckList text r = r ≡ and_then (list_checked text) (Ok (length (lines_of text
 -- where the line ends that begins at a place of the text: at its line feed, or else at the text's end; a place beyond the text is
 -- its own end
 unfoldable pub line_end : List ℕ → ℕ → ℕ
-line_end text at = at + first (λ k. is_line_end (get_or text (at + k) 0)) (length text - at)
+line_end text at = at + position_or_len is_line_end (drop at text)

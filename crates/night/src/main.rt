@@ -102,8 +102,8 @@ fn read_piece<R: Read>(
             bytes: place,
         }));
     };
-    let judge = lists::judge_piece(before.judge, &text[place..bytes]);
-    if lists::is_over(judge) {
+    let judge = before.judge.judge_piece(&text[place..bytes]);
+    if judge.is_over() {
         return Ok(ControlFlow::Break(Reading { judge, bytes }));
     }
     Ok(ControlFlow::Continue(Reading { judge, bytes }))
@@ -116,7 +116,7 @@ fn read_list<R: Read>(reader: &mut R, text: &mut [u8]) -> io::Result<Reading>
     ensures accepts { IfOk result (λ reading. Accepts text.new reading.bytes reading.judge) }
 {
     let mut reading = Reading {
-        judge: lists::start(),
+        judge: Judge::start(),
         bytes: 0,
     };
     for _ in 0..MOST_READS {
@@ -250,7 +250,7 @@ where
         out,
         room: system::file_room(),
     };
-    match lists::verdict(reading.judge) {
+    match reading.judge.verdict() {
         Ok(()) => sheet.print(&text[..reading.bytes]),
         // Its line is that of a file with this refusal.
         Err(refusal) => sheet.print_outcome(Outcome::from(Err(refusal))),

@@ -1,6 +1,7 @@
 // A list that is judged piece by piece, as a program reads it.
 use crate::answers;
 use crate::records::Record;
+use lists::Judge;
 use std::io::Write;
 use wire::Wire;
 
@@ -10,7 +11,7 @@ const MOST_PIECES: u64 = 1000000;
 // Judges the text in pieces of the sizes, from the first again after the last, and prints the verdict and how many
 // pieces had come when line 251 began. Where there are no sizes the text is one piece.
 pub fn judge<R, W: Write>(wire: &mut Wire<R, W>, record: Record<'_>) {
-    let mut judge = lists::start();
+    let mut judge = Judge::start();
     let mut pieces = 0;
     let mut rest = record.text;
     let mut sizes = record.sizes.iter().cycle();
@@ -18,16 +19,16 @@ pub fn judge<R, W: Write>(wire: &mut Wire<R, W>, record: Record<'_>) {
         if rest.is_empty() {
             break;
         }
-        if !lists::is_over(judge) {
+        if !judge.is_over() {
             pieces = turn + 1;
         }
         let size = sizes
             .next()
             .map_or(rest.len(), |size| rest.len().min(*size as usize));
         let (piece, later) = rest.split_at(size);
-        judge = lists::judge_piece(judge, piece);
+        judge = judge.judge_piece(piece);
         rest = later;
     }
-    wire.answer(answers::judged(lists::verdict(judge)));
+    wire.answer(answers::judged(judge.verdict()));
     wire.word(pieces);
 }
