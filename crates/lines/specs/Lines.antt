@@ -14,6 +14,7 @@ use Rattle.reports.specs.Counts.{file_counted}
 use Rattle.totals.specs.declared.Outcome.{Outcome}
 use Rattle.totals.specs.declared.Outcome.TheVariants.{Unopened, Opened}
 use Rattle.totals.specs.declared.Totals.{Totals}
+pub use Rattle.totals.specs.Totals.{in_order}
 
 -- how many decimal digits a number has: the fewest that hold it, and at least one
 unfoldable pub digits_of : ℕ → ℕ
@@ -59,13 +60,6 @@ outcome_line (Opened (Err r)) = refused_line r
 -- the report's line of the file f: that of what counting it answers
 abbrev pub report_line : List ℕ → List ℕ
 report_line f = outcome_line (Opened (noticed (file_counted f)))
-
--- the totals in the order of the night sheet's last line: the files cleaned, not opened, refused under 7, 8, 9, 15, 16, 17 and 18; then the
--- sums, in the order of a file's counts
-abbrev pub in_order : Totals → List ℕ
-in_order t =
-    t.cleaned ∷ t.unopened ∷ t.seven ∷ t.eight ∷ t.nine ∷ t.fifteen ∷ t.sixteen ∷ t.seventeen ∷ t.eighteen
-    ∷ t.samples ∷ t.changed ∷ t.spikes ∷ t.up ∷ t.down ∷ []
 
 -- the night sheet's last line: its totals
 unfoldable pub totals_line : Totals → List ℕ

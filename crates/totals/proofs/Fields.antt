@@ -1,8 +1,10 @@
 -- The fields of the totals, so that a law is proved once for all of them.
 -- Assumes nothing.
-use Rattle.std.proofs.Common.{◌≡◌, ℕ, refl}
+use Rattle.std.proofs.Common.{◌≡◌, ℕ, ◌+◌, ◌%◌, ◌^◌, List, length, get_or, refl}
+use Rattle.theory.specs.Lists.{tab}
+use Rattle.totals.specs.declared.Outcome.{Outcome}
 use Rattle.totals.specs.declared.Totals.{Totals}
-use Rattle.totals.specs.Totals.{each_field}
+use Rattle.totals.specs.Totals.{each_field, in_order, totals_in, adds, added}
 
 pub data Field : Type 0 where
   cleaned : Field
@@ -73,3 +75,9 @@ same_fields e = λ i. record {
   up = e up i;
   down = e down i;
 }
+
+-- totals by their numbers, each a sum in 64 bits, are those with one outcome more
+pub added_by : (t : Totals) (o : Outcome) {before more : List ℕ} → before ≡ in_order t → more ≡ in_order (adds o)
+    → totals_in (tab (length before) (λ k. (get_or before k 0 + get_or more k 0) % 2 ^ 64)) ≡ added t o
+unfolding tab added each_field
+added_by t o p q = rw (p, q) refl

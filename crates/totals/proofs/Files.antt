@@ -9,7 +9,6 @@ use Rattle.std.proofs.Common.{◌≡◌, ℕ, ◌*◌, ◌≤◌, eqb, List, ref
 use Rattle.limits.specs.Limits.{top, most_samples}
 use Rattle.theory.specs.Lists.{bit}
 use Rattle.theory.proofs.Lists.{bit_lt}
-use Rattle.refusals.specs.declared.Refusal.{Refusal}
 use Rattle.files.specs.Layout.{counts_family}
 use Rattle.files.specs.Files.{file_checked}
 use Rattle.files.specs.Causes.{Bytes}

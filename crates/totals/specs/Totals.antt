@@ -1,11 +1,37 @@
 -- The night sheet's totals: "files cleaned, files not opened, files refused under 7, 8, 9 and 11 (a count each), samples, changed
 -- samples, spikes and both residue totals". Those are request 1's words; request 3 puts 15, 16, 17 and 18 in the place of 11.
-use Rattle.std.specs.Prelude.{ℕ, ◌+◌, ◌%◌, ◌^◌, List, [], ◌∷◌, ◌==◌, Ok, Err}
+use Rattle.std.specs.Prelude.{ℕ, ◌+◌, ◌%◌, ◌^◌, List, [], ◌∷◌, ◌==◌, Ok, Err, get_or}
 use Rattle.theory.specs.Lists.{bit}
 use Rattle.reports.specs.declared.Counts.{Counts}
 use Rattle.totals.specs.declared.Outcome.{Outcome}
 use Rattle.totals.specs.declared.Outcome.TheVariants.{Unopened, Opened}
 use Rattle.totals.specs.declared.Totals.{Totals}
+
+-- the totals in the order of the night sheet's last line: the files cleaned, not opened, refused under 7, 8, 9, 15, 16, 17 and 18; then the
+-- sums, in the order of a file's counts
+abbrev pub in_order : Totals → List ℕ
+in_order t =
+    t.cleaned ∷ t.unopened ∷ t.seven ∷ t.eight ∷ t.nine ∷ t.fifteen ∷ t.sixteen ∷ t.seventeen ∷ t.eighteen
+    ∷ t.samples ∷ t.changed ∷ t.spikes ∷ t.up ∷ t.down ∷ []
+
+-- the totals whose numbers are these, in that order
+abbrev pub totals_in : List ℕ → Totals
+totals_in ns = record {
+  cleaned = get_or ns 0 0;
+  unopened = get_or ns 1 0;
+  seven = get_or ns 2 0;
+  eight = get_or ns 3 0;
+  nine = get_or ns 4 0;
+  fifteen = get_or ns 5 0;
+  sixteen = get_or ns 6 0;
+  seventeen = get_or ns 7 0;
+  eighteen = get_or ns 8 0;
+  samples = get_or ns 9 0;
+  changed = get_or ns 10 0;
+  spikes = get_or ns 11 0;
+  up = get_or ns 12 0;
+  down = get_or ns 13 0;
+}
 
 -- 1 for a file that was not opened
 unfoldable pub of_unopened : Outcome → ℕ

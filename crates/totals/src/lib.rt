@@ -5,15 +5,16 @@
 
 #![tactic(auto)]
 
-ghost use Rattle.std.specs.Prelude.{◌≡◌, ◌==◌};
-ghost use Rattle.theory.specs.Lists.{bit};
+ghost use Rattle.std.specs.Prelude.{◌≡◌};
 ghost use Rattle.refusals.specs.Numbers.{noticed};
 ghost use Rattle.totals.specs.declared.Outcome.TheVariants.{Unopened, Opened};
-ghost use Rattle.totals.specs.Totals.{adds, nothing, added};
+ghost use Rattle.totals.specs.Totals.{in_order, totals_in, adds, nothing, added};
 
 use refusals::{Notice, Refusal};
 use reports::Counts;
-use std::num::wrapping_add_u64;
+
+// The night sheet's last line has so many numbers.
+pub const NUMBERS: usize = 14;
 
 // What became of a file of the list.
 #[derive(Clone, Copy)]
@@ -34,7 +35,7 @@ impl From<Result<Counts, Refusal>> for Outcome {
 }
 
 // The numbers of the night sheet's last line.
-#[derive(Clone, Copy)]
+#[derive(Clone, Copy, Debug, Default, PartialEq, Eq)]
 pub struct Totals {
     // How many files were cleaned.
     pub cleaned: u64,
@@ -56,91 +57,141 @@ pub struct Totals {
     pub down: u64,
 }
 
-// Before the first file.
-pub fn start() -> Totals
-    ensures { result ≡ nothing }
-{
-    Totals {
-        cleaned: 0,
-        unopened: 0,
-        seven: 0,
-        eight: 0,
-        nine: 0,
-        fifteen: 0,
-        sixteen: 0,
-        seventeen: 0,
-        eighteen: 0,
-        samples: 0,
-        changed: 0,
-        spikes: 0,
-        up: 0,
-        down: 0,
+impl From<Totals> for [u64; NUMBERS] {
+    ghost from_gives = { λ totals numbers. numbers ≡ in_order totals };
+
+    // The numbers in the order of the night sheet's last line.
+    fn from(totals: Totals) -> [u64; NUMBERS] {
+        [
+            totals.cleaned,
+            totals.unopened,
+            totals.seven,
+            totals.eight,
+            totals.nine,
+            totals.fifteen,
+            totals.sixteen,
+            totals.seventeen,
+            totals.eighteen,
+            totals.samples,
+            totals.changed,
+            totals.spikes,
+            totals.up,
+            totals.down,
+        ]
     }
 }
 
-// 1 where a refusal has a number, 0 where it has another.
-#[tactic(auto, unfolding(theory::specs::Lists::bit))]
-fn under(number: u8, refusal: Notice) -> u64
-    ensures { result ≡ bit (refusal.number == number) }
-{
-    if refusal.number == number { 1 } else { 0 }
+impl From<[u64; NUMBERS]> for Totals {
+    ghost from_gives = { λ numbers totals. totals ≡ totals_in numbers };
+
+    // The totals whose numbers are these, in that order.
+    fn from(numbers: [u64; NUMBERS]) -> Totals {
+        let [
+            cleaned,
+            unopened,
+            seven,
+            eight,
+            nine,
+            fifteen,
+            sixteen,
+            seventeen,
+            eighteen,
+            samples,
+            changed,
+            spikes,
+            up,
+            down,
+        ] = numbers;
+        Totals {
+            cleaned,
+            unopened,
+            seven,
+            eight,
+            nine,
+            fifteen,
+            sixteen,
+            seventeen,
+            eighteen,
+            samples,
+            changed,
+            spikes,
+            up,
+            down,
+        }
+    }
 }
 
-// What a file adds that was not opened.
-fn of_unopened() -> Totals
-    ensures { result ≡ adds Unopened }
+// Before the first file.
+#[tactic(auto, unfolding(crate::specs::Totals::nothing, crate::specs::Totals::each_field))]
+pub fn start() -> Totals
+    ensures { result ≡ nothing }
 {
-    let mut adds = start();
-    adds.unopened = 1;
-    adds
+    Totals::default()
 }
 
 // What a file adds that was refused.
+#[tactic(auto, unfolding(crate::specs::Totals::nothing, crate::specs::Totals::each_field, crate::specs::Totals::adds, crate::specs::Totals::of_unopened, crate::specs::Totals::of_refused, crate::specs::Totals::of_cleaned, theory::specs::Lists::bit))]
 fn of_refusal(refusal: Notice) -> Totals
     ensures { result ≡ adds (Opened (Err refusal)) }
 {
-    let mut adds = start();
-    adds.seven = under(7, refusal);
-    adds.eight = under(8, refusal);
-    adds.nine = under(9, refusal);
-    adds.fifteen = under(15, refusal);
-    adds.sixteen = under(16, refusal);
-    adds.seventeen = under(17, refusal);
-    adds.eighteen = under(18, refusal);
-    adds
+    match refusal.number {
+        7 => Totals {
+            seven: 1,
+            ..start()
+        },
+        8 => Totals {
+            eight: 1,
+            ..start()
+        },
+        9 => Totals { nine: 1, ..start() },
+        15 => Totals {
+            fifteen: 1,
+            ..start()
+        },
+        16 => Totals {
+            sixteen: 1,
+            ..start()
+        },
+        17 => Totals {
+            seventeen: 1,
+            ..start()
+        },
+        18 => Totals {
+            eighteen: 1,
+            ..start()
+        },
+        _ => start(),
+    }
 }
 
 // What a file adds that was cleaned.
+#[tactic(auto, unfolding(crate::specs::Totals::nothing, crate::specs::Totals::each_field, crate::specs::Totals::adds, crate::specs::Totals::of_unopened, crate::specs::Totals::of_refused, crate::specs::Totals::of_cleaned))]
 fn of_counts(counts: Counts) -> Totals
     ensures { result ≡ adds (Opened (Ok counts)) }
 {
-    let mut adds = start();
-    adds.cleaned = 1;
-    adds.samples = counts.samples;
-    adds.changed = counts.changed;
-    adds.spikes = counts.spikes;
-    adds.up = counts.up;
-    adds.down = counts.down;
-    adds
-}
-
-// What a file adds that was opened.
-fn of_answer(answer: Result<Counts, Notice>) -> Totals
-    ensures { result ≡ adds (Opened answer) }
-{
-    match answer {
-        Ok(counts) => of_counts(counts),
-        Err(refusal) => of_refusal(refusal),
+    Totals {
+        cleaned: 1,
+        samples: counts.samples,
+        changed: counts.changed,
+        spikes: counts.spikes,
+        up: counts.up,
+        down: counts.down,
+        ..start()
     }
 }
 
 // What a file adds.
+#[tactic(auto, unfolding(crate::specs::Totals::nothing, crate::specs::Totals::each_field, crate::specs::Totals::adds, crate::specs::Totals::of_unopened, crate::specs::Totals::of_refused, crate::specs::Totals::of_cleaned))]
 fn of_outcome(outcome: Outcome) -> Totals
     ensures { result ≡ adds outcome }
 {
     match outcome {
-        Outcome::Unopened => of_unopened(),
-        Outcome::Opened(answer) => of_answer(answer),
+        Outcome::Unopened => Totals {
+            unopened: 1,
+            ..start()
+        },
+        Outcome::Opened(Ok(counts)) => of_counts(counts),
+        Outcome::Opened(Err(refusal)) => of_refusal(refusal),
     }
 }
 
@@ -148,21 +199,10 @@ fn of_outcome(outcome: Outcome) -> Totals
 pub fn add(totals: Totals, outcome: Outcome) -> Totals
     ensures { result ≡ added totals outcome }
 {
-    let adds = of_outcome(outcome);
-    Totals {
-        cleaned: wrapping_add_u64(totals.cleaned, adds.cleaned),
-        unopened: wrapping_add_u64(totals.unopened, adds.unopened),
-        seven: wrapping_add_u64(totals.seven, adds.seven),
-        eight: wrapping_add_u64(totals.eight, adds.eight),
-        nine: wrapping_add_u64(totals.nine, adds.nine),
-        fifteen: wrapping_add_u64(totals.fifteen, adds.fifteen),
-        sixteen: wrapping_add_u64(totals.sixteen, adds.sixteen),
-        seventeen: wrapping_add_u64(totals.seventeen, adds.seventeen),
-        eighteen: wrapping_add_u64(totals.eighteen, adds.eighteen),
-        samples: wrapping_add_u64(totals.samples, adds.samples),
-        changed: wrapping_add_u64(totals.changed, adds.changed),
-        spikes: wrapping_add_u64(totals.spikes, adds.spikes),
-        up: wrapping_add_u64(totals.up, adds.up),
-        down: wrapping_add_u64(totals.down, adds.down),
+    let mut sums: [u64; NUMBERS] = totals.into();
+    let adds: [u64; NUMBERS] = of_outcome(outcome).into();
+    for (i, sum) in sums.iter_mut().enumerate() {
+        *sum = sum.wrapping_add(adds[i]);
     }
+    sums.into()
 }

@@ -1,24 +1,32 @@
-use Rattle.std.proofs.Common.{suc, ◌+◌, arith, ◌≡◌, ◌∙◌, get_or}
-use Rattle.lines.specs.Lines.{decimal}
-use Rattle.lines.proofs.Numbers.{line_from, line_next, line_last}
-use Rattle.lines.proofs.Puts.{put_next}
+use Rattle.std.proofs.Common.{ℕ, ◌-◌, ◌≡◌, List, refl, zero-le, length, take, arith}
+use Rattle.std.proofs.lemmas.List.{length-take-le, get_or-take}
+use Rattle.lines.proofs.Numbers.{spaced, spaced_more, spaced_last}
+use Rattle.lines.proofs.Puts.{put_same, put_then}
 use Rattle.lines.proofs.put_numbers.Goals as goal
 
-pub loop-i-preserved : goal.loop-i-preserved
-loop-i-preserved c =
-    let a = c.args in
-    let i = c.loop-i.i in
-    let number = decimal (get_or a.numbers.now i 0) in
-    let next : i + 1 ≡ suc i = omega arith in
-    let step = line_next a.numbers.now i (omega arith) in (
-      c.put_number-next.auto.out ∙ c.loop-i.invariant.0,
-      omega arith,
-      omega (arith, c.put_number-next.ensures.1),
-      rw next (λ new r rest. c.loop-i.invariant.3 new r (rw step (put_next number 32 (line_from a.numbers.now (suc i)) c.put_number-next.ensures.0 rest))),
+pub loop-number-init : goal.loop-number-init
+unfolding spaced
+loop-number-init c = (record { out = refl; next = refl; room = zero-le }, zero-le)
+
+-- how many numbers have a space behind them
+front : (numbers : List ℕ) → length (take (length numbers - 1) numbers) ≡ length numbers - 1
+front numbers = length-take-le (length numbers - 1) numbers (omega arith)
+
+pub loop-number-preserved : goal.loop-number-preserved
+loop-number-preserved c =
+    let numbers = c.args.numbers.now in
+    let i = c.loop-number.number-index in
+    let done = c.loop-number.invariant in
+    let here = get_or-take (length numbers - 1) numbers i 0 (omega (arith, front numbers)) in
+    let next = rw here at (put_then done.0 c.put_number-at.ensures.0) in (
+      put_same (spaced_more numbers i (omega (arith, front numbers))) next,
+      omega (arith, done.1, c.put_number-at.ensures.1),
     )
 
 pub returns : goal.returns
 returns c =
-    let a = c.args in
-    let step = line_last a.numbers.now c.loop-i.i (omega arith) in
-    c.loop-i.invariant.3 _ _ (rw step c.put_number.ensures.0)
+    let numbers = c.args.numbers.now in
+    let last = length numbers - 1 in
+    let all : c.loop-number.number-index ≡ last = omega (arith, front numbers) in
+    let done = rw all at c.loop-number.invariant.0 in
+    put_same (spaced_last numbers last (omega arith)) (put_then done c.put_number.ensures.0)

@@ -1,24 +1,17 @@
--- `totals::add` meets its contract: each field is a sum modulo 2^64. Assumes nothing.
-use Rattle.totals.specs.Totals.{each_field, added}
+use Rattle.std.proofs.Common.{arith, ap, ◌∙◌, length}
+use Rattle.theory.proofs.Fills.{fill_none, fill_here, fill_more, fill_all}
+use Rattle.totals.specs.Totals.{in_order, totals_in}
+use Rattle.totals.proofs.Fields.{added_by}
 use Rattle.totals.proofs.add.Goals as goal
 
+pub loop-i-init : goal.loop-i-init
+loop-i-init c = fill_none _ _
+
+pub loop-i-preserved : goal.loop-i-preserved
+loop-i-preserved c =
+    fill_more c.loop-i.invariant (omega (arith, ap length c.into-sums.ensures)) (rw (fill_here 0 c.loop-i.invariant))
+
 pub returns : goal.returns
-unfolding added each_field
 returns c =
-    rw (← c.of_outcome-adds.ensures)
-    (λ i. record {
-      cleaned = c.wrapping_add_u64.ensures.value i;
-      unopened = c.wrapping_add_u64-2.ensures.value i;
-      seven = c.wrapping_add_u64-3.ensures.value i;
-      eight = c.wrapping_add_u64-4.ensures.value i;
-      nine = c.wrapping_add_u64-5.ensures.value i;
-      fifteen = c.wrapping_add_u64-6.ensures.value i;
-      sixteen = c.wrapping_add_u64-7.ensures.value i;
-      seventeen = c.wrapping_add_u64-8.ensures.value i;
-      eighteen = c.wrapping_add_u64-9.ensures.value i;
-      samples = c.wrapping_add_u64-10.ensures.value i;
-      changed = c.wrapping_add_u64-11.ensures.value i;
-      spikes = c.wrapping_add_u64-12.ensures.value i;
-      up = c.wrapping_add_u64-13.ensures.value i;
-      down = c.wrapping_add_u64-14.ensures.value i;
-    })
+    let all = fill_all c.loop-i.invariant (omega (arith, ap length c.into-sums.ensures)) in
+    c.into.ensures ∙ ap totals_in all ∙ added_by c.args.totals c.args.outcome c.into-sums.ensures (c.into-adds.ensures ∙ ap in_order c.of_outcome.ensures)
