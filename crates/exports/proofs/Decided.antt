@@ -8,30 +8,20 @@ use mathlib.Core.Path.{◌≡◌, sym, ap, ◌∙◌}
 use mathlib.Core.List.{List}
 use Rattle.refusals.specs.declared.Refusal.{Refusal}
 use Rattle.refusals.specs.declared.Notice.{Notice}
-use Rattle.refusals.specs.Numbers.{notice, notice_of}
+use Rattle.refusals.specs.Numbers.{notice}
 use Rattle.refusals.specs.Promise.{Gives}
 use Rattle.refusals.proofs.Decided.{gives_decided}
 use Rattle.compiler.specs.Compile.{Compile}
-use Rattle.exports.specs.Told.{Told, given, refused}
+use Rattle.exports.specs.Told.{notice_told, Told}
 
 module _ {code code' value value' : ℕ} where
   -- where two promises leave one answer and tell something else beside, C is told one thing
   told_decided : {P Q : Result ℕ Refusal → Type 0} {Else : Type 0} → ((a b : Result ℕ Refusal) → P a → Q b → (a ≡ b) × Else)
       → Told P code value → Told Q code' value' → (code ≡ code') × (value ≡ value') × Else
-  told_decided one (given z p) (given z' q) =
-      let same = one _ _ p q in
-      (z ∙ sym z', cc, same.1)
-  told_decided one (given z p) (refused r q n) =
-      let same = (one _ _ p q).0 in
-      absurd (cc)
-  told_decided one (refused r p n) (given z q) =
-      let same = (one _ _ p q).0 in
-      absurd (cc)
-  told_decided one (refused r p n) (refused r' q n') =
-      let same = one _ _ p q in
-      let e : r ≡ r' = cc in
-      let told : notice code value ≡ notice code' value' = n ∙ ap notice_of e ∙ sym n' in
-      (ap (λ (x : Notice). x.number) told, ap (λ (x : Notice). x.place) told, same.1)
+  told_decided one t t' =
+      let same = one t.answer t'.answer t.promised t'.promised in
+      let n : notice code value ≡ notice code' value' = t.is ∙ ap notice_told same.0 ∙ sym t'.is in
+      (ap (λ (x : Notice). x.number) n, ap (λ (x : Notice). x.place) n, same.1)
 
   -- the calls that answer a number and fill one slice
   pub slice_decided : {A : Type 0} {check : ℕ → Checked} {n : ℕ} {gift old new new' : List A}

@@ -1,11 +1,10 @@
--- What C is told of an answer, it is told of whatever is promised of the answer; and the numbers in the answers of the root question, of
--- reading and of counting, by the call's check.
+-- The numbers in the answers of the root question, of reading and of counting, by the call's check.
 -- Assumes nothing.
 use Rattle.std.specs.Prelude.{Result, Ok, Err, Option}
 use Rattle.refusals.specs.declared.Refusal.{Refusal}
 use Rattle.refusals.specs.Refusals.{Checked, and_then, kept}
 use Prim.Native.Nat.{ℕ}
-use mathlib.Core.Path.{◌≡◌, refl, sym, subst}
+use mathlib.Core.Path.{◌≡◌, refl}
 use mathlib.Core.Bool.{true, false}
 use mathlib.Core.List.{List, [], ◌∷◌}
 use mathlib.Core.Logic.{◌⊎◌, inl, inr}
@@ -20,12 +19,7 @@ use Rattle.files.specs.declared.Sizes.{Sizes}
 use Rattle.files.specs.Files.{sizes, Read, read_checked, file_checked}
 use Rattle.reports.specs.declared.Counts.{Counts}
 use Rattle.reports.specs.Counts.{Count, counts_of, counts_in}
-use Rattle.exports.specs.Told.{Told, given, refused}
 use Rattle.exports.specs.Private.{sample_in, samples_in, terms_in, counted_in, five_in}
-
-pub told : {P : Result ℕ Refusal → Type 0} {answer : Result ℕ Refusal} {code value : ℕ} → P answer → Told (λ a. a ≡ answer) code value → Told P code value
-told {P = P} p (given z e) = given z (subst P (sym e) p)
-told {P = P} p (refused r e n) = refused r (subst P (sym e) p) n
 
 -- what is made of an answer is made of either case
 told_of : {A : Type 0} (c : Checked) (f : Result A Refusal → Result ℕ Refusal) (a : A) (n : ℕ) → f (Ok a) ≡ Ok n → ((r : Refusal) → f (Err r) ≡ Err r)

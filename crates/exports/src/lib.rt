@@ -11,6 +11,7 @@ ghost use Rattle.std.specs.Prelude.{◌≡◌, [], ◌∷◌, length};
 ghost use Rattle.limits.specs.Limits.{width, line_bytes, totals_bytes};
 ghost use Rattle.theory.specs.Lists.{first};
 ghost use Rattle.theory.specs.Signals.{held, filtered_at};
+ghost use Rattle.refusals.specs.Numbers.{notice};
 ghost use Rattle.refusals.specs.Refusals.{and_then, kept, written};
 ghost use Rattle.forms.specs.Check.{form_checked};
 ghost use Rattle.tables.specs.Tables.{TableToForm, FormToTable};
@@ -24,22 +25,21 @@ ghost use Rattle.reports.specs.Counts.{counts_in};
 ghost use Rattle.lists.specs.Names.{CheckList};
 ghost use Rattle.totals.specs.declared.Outcome.TheVariants.{Unopened};
 ghost use Rattle.lines.specs.Lines.{Line, Writes, outcome_line, totals_line};
-ghost use Rattle.exports.specs.Told.{Told};
+ghost use Rattle.exports.specs.Told.{notice_told, Told};
 ghost use Rattle.exports.specs.Sheet.{outcome_in, totals_in, summed};
 ghost use Rattle.exports.specs.Private.{sample_in, samples_in, terms_in, counted_in, five_in};
 
 use files::Sizes;
 use limits::{LINE_BYTES, WIDTH};
-use lines::NUMBERS;
 use refusals::{Notice, Refusal};
 use reports::Counts;
-use totals::{Outcome, Totals};
+use totals::{NUMBERS, Outcome, Totals};
 
 // ---- what C is told
 
 // The result, and the number that C finds at `value`.
 fn tell(answer: Result<usize, Refusal>, value: &mut usize) -> u8
-    ensures { Told (λ a. a ≡ answer) result value.new }
+    ensures { notice result value.new ≡ notice_told answer }
 {
     match answer {
         Ok(n) => {
@@ -58,47 +58,35 @@ fn tell(answer: Result<usize, Refusal>, value: &mut usize) -> u8
 fn sample_in(answer: Result<Option<usize>, Refusal>, samples: usize) -> Result<usize, Refusal>
     ensures { result ≡ sample_in answer samples }
 {
-    match answer {
-        Ok(None) => Ok(samples),
-        Ok(Some(x)) => Ok(x),
-        Err(refusal) => Err(refusal),
-    }
+    answer.map(|differs| differs.unwrap_or(samples))
 }
 
 // The number of samples read.
 fn samples_in(answer: Result<Sizes, Refusal>) -> Result<usize, Refusal>
     ensures { result ≡ samples_in answer }
 {
-    match answer {
-        Ok(sizes) => Ok(sizes.samples),
-        Err(refusal) => Err(refusal),
-    }
+    answer.map(|sizes| sizes.samples)
 }
 
 // The number of terms read; what stood there before, where nothing was.
 fn terms_in(answer: Result<Sizes, Refusal>, before: usize) -> usize
     ensures { result ≡ terms_in answer before }
 {
-    match answer {
-        Ok(sizes) => sizes.terms,
-        Err(_) => before,
-    }
+    answer.map_or(before, |sizes| sizes.terms)
 }
 
 // The number of samples counted.
 fn counted_in(answer: Result<Counts, Refusal>) -> Result<usize, Refusal>
     ensures { result ≡ counted_in answer }
 {
-    match answer {
-        Ok(counts) => Ok(counts.samples as usize),
-        Err(refusal) => Err(refusal),
-    }
+    answer.map(|counts| counts.samples as usize)
 }
 
 // The five numbers in the printed order; what stood there before, where nothing was counted.
 fn five_in(answer: Result<Counts, Refusal>, before: [u64; 5]) -> [u64; 5]
     ensures { result ≡ five_in answer before }
 {
+    // A match: tried with map_or, and the proof didn't close.
     match answer {
         Ok(counts) => [
             counts.samples,
@@ -111,43 +99,24 @@ fn five_in(answer: Result<Counts, Refusal>, before: [u64; 5]) -> [u64; 5]
     }
 }
 
-// What becomes of a file that was read.
-fn outcome_in(file: &[u8]) -> Outcome
-    ensures { result ≡ outcome_in file.now }
-{
-    Outcome::from(reports::count(file))
-}
-
-// Numbers, in the order of the night sheet's last line, as its totals.
-fn totals_in(numbers: [u64; NUMBERS]) -> Totals
-    ensures { result ≡ totals_in numbers }
-{
-    Totals {
-        cleaned: numbers[0],
-        unopened: numbers[1],
-        seven: numbers[2],
-        eight: numbers[3],
-        nine: numbers[4],
-        fifteen: numbers[5],
-        sixteen: numbers[6],
-        seventeen: numbers[7],
-        eighteen: numbers[8],
-        samples: numbers[9],
-        changed: numbers[10],
-        spikes: numbers[11],
-        up: numbers[12],
-        down: numbers[13],
-    }
-}
-
 // The totals after a file, with so many bytes lent for its line: with its outcome, or as they were where these are refused.
 fn sum(numbers: [u64; NUMBERS], outcome: Outcome, lent: usize) -> [u64; NUMBERS]
     ensures { result ≡ summed numbers outcome lent }
 {
-    match refusals::check_lent(LINE_BYTES, lent) {
-        Ok(()) => lines::in_order(totals::add(totals_in(numbers), outcome)),
-        Err(_) => numbers,
+    if refusals::check_lent(LINE_BYTES, lent).is_ok() {
+        totals::add(numbers.into(), outcome).into()
+    } else {
+        numbers
     }
+}
+
+// Adds what became of a file to the totals and writes its line.
+fn put_line(outcome: Outcome, totals: &mut [u64; NUMBERS], out: &mut [u8], value: &mut usize) -> u8
+    ensures { Told (Writes line_bytes (outcome_line outcome) out.old out.new) result value.new
+        × (totals.new ≡ summed totals.old outcome (length out.old)) }
+{
+    *totals = sum(*totals, outcome, out.len());
+    tell(lines::outcome_line(outcome, out), value)
 }
 
 // So many terms, where they are a form.
@@ -232,6 +201,7 @@ pub extern "C" fn sf_residue(terms: &[u16], scan: &[u16], out: &mut [i32], value
 
 // The root question; see scans::root. Refuses 7, 8, 9; `value` is the first sample that differs, or the number of samples where
 // the scan is a root.
+#[tactic(auto, using(crate::proofs::Tells::root_sample))]
 #[unsafe(no_mangle)]
 pub extern "C" fn sf_root(terms: &[u16], scan: &[u16], value: &mut usize) -> u8
     ensures { let form = terms.now in
@@ -251,6 +221,7 @@ pub extern "C" fn sf_write(terms: &[u16], scan: &[u16], out: &mut [u8], value: &
 
 // Reads a scan file; see files::read. Refuses 15 to 18, 7, 8, 9, 6, 10; the samples and the terms go to their slices, their numbers to
 // `value` and `terms_read`.
+#[tactic(auto, using(crate::proofs::Tells::read_samples, crate::proofs::Tells::read_terms))]
 #[unsafe(no_mangle)]
 pub extern "C" fn sf_read(
     file: &[u8],
@@ -273,6 +244,7 @@ pub extern "C" fn sf_read(
 
 // Counts for the report from a scan file; see reports::count. Refuses 15 to 18, 7, 8, 9; the five numbers go to `counts` in the printed
 // order, the number of samples to `value`.
+#[tactic(auto, using(crate::proofs::Tells::count_samples, crate::proofs::Tells::count_five))]
 #[unsafe(no_mangle)]
 pub extern "C" fn sf_count(file: &[u8], counts: &mut [u64; 5], value: &mut usize) -> u8
     ensures { let f = file.now in
@@ -318,9 +290,7 @@ pub extern "C" fn sf_night_line(
         Told (Writes line_bytes (outcome_line o) out.old out.new) result value.new
         × (totals.new ≡ summed totals.old o (length out.old)) }
 {
-    let outcome = outcome_in(file);
-    *totals = sum(*totals, outcome, out.len());
-    tell(lines::outcome_line(outcome, out), value)
+    put_line(Outcome::from(reports::count(file)), totals, out, value)
 }
 
 // The same for a file that could not be opened or read.
@@ -333,8 +303,7 @@ pub extern "C" fn sf_night_unopened(
     ensures { Told (Writes line_bytes (outcome_line Unopened) out.old out.new) result value.new
         × (totals.new ≡ summed totals.old Unopened (length out.old)) }
 {
-    *totals = sum(*totals, Outcome::Unopened, out.len());
-    tell(lines::outcome_line(Outcome::Unopened, out), value)
+    put_line(Outcome::Unopened, totals, out, value)
 }
 
 // The sheet's last line; see lines::totals_line. Refuses 10; the line goes to `out`, its length to `value`.
@@ -343,5 +312,5 @@ pub extern "C" fn sf_night_totals(totals: &[u64; NUMBERS], out: &mut [u8], value
     ensures { Told (Writes totals_bytes (totals_line (totals_in totals.now)) out.old out.new)
         result value.new }
 {
-    tell(lines::totals_line(totals_in(*totals), out), value)
+    tell(lines::totals_line(Totals::from(*totals), out), value)
 }
