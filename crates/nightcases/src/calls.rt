@@ -118,38 +118,7 @@ fn read_outcome<R: Read, W>(wire: &mut Wire<R, W>) -> Outcome {
 // Totals are their numbers, in the order of the sheet's last line.
 fn read_totals<R: Read, W>(wire: &mut Wire<R, W>) -> Totals {
     let numbers: [u64; NUMBERS] = wire.numbers();
-    let [
-        cleaned,
-        unopened,
-        seven,
-        eight,
-        nine,
-        fifteen,
-        sixteen,
-        seventeen,
-        eighteen,
-        samples,
-        changed,
-        spikes,
-        up,
-        down,
-    ] = numbers;
-    Totals {
-        cleaned,
-        unopened,
-        seven,
-        eight,
-        nine,
-        fifteen,
-        sixteen,
-        seventeen,
-        eighteen,
-        samples,
-        changed,
-        spikes,
-        up,
-        down,
-    }
+    numbers.into()
 }
 
 // Adds so many outcomes, one after another. Totals are never refused.

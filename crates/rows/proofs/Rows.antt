@@ -19,7 +19,8 @@ use Rattle.theory.proofs.Ranks.{pick_agree}
 use Rattle.theory.proofs.Differences.{sub_low, sub_high, sub_same, sub_add, pos_add}
 use Rattle.theory.proofs.Truth.{Fits}
 use Rattle.theory.proofs.Beyond.{whole_row}
-use Rattle.rows.specs.Private.{margin, chosen}
+use Rattle.rows.specs.Private.{margin}
+use Rattle.rows.specs.Rows.{chosen}
 use Rattle.rows.specs.Rows.{widened, paired}
 use Rattle.rows.specs.Changes.{picked}
 

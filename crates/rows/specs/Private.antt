@@ -40,10 +40,6 @@ sorted_rows = width * longest_row
 unfoldable pub part : ℕ → ℕ → List ℕ → List ℕ
 part n from src = tab n (λ j. get_or src (j + from) 0)
 
--- the larger or the smaller of two
-unfoldable pub chosen : Bool → ℕ → ℕ → ℕ
-chosen high a b = cond high (larger counts a b) (smaller counts a b)
-
 -- ---- a row and a set
 
 -- the smallest, or the largest

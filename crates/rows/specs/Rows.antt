@@ -14,6 +14,10 @@ widened k l r s = tab (length s + (k + k)) (λ i. between l r s (sub_ℕ i k))
 unfoldable pub is_wider : ℕ → List ℕ → List ℕ → Bool
 is_wider k s room = eqb (length room) (length s + (k + k))
 
+-- the larger or the smaller of two
+unfoldable pub chosen : Bool → ℕ → ℕ → ℕ
+chosen high a b = cond high (larger counts a b) (smaller counts a b)
+
 -- the larger, or the smaller, of two rows at each index
 unfoldable pub paired : Bool → List ℕ → List ℕ → List ℕ
 paired high x y = tab (length y) (λ j. cond high (larger counts (get_or x j 0) (get_or y j 0)) (smaller counts (get_or x j 0) (get_or y j 0)))

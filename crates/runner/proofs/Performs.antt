@@ -37,7 +37,7 @@ use Rattle.rows.specs.Changes.{is_sound, after_change}
 use Rattle.rows.proofs.Rows.{row_of, pair_of, scan_row, paired_row}
 use Rattle.rows.proofs.Changes.{plan_after, changed_row}
 use Rattle.runner.specs.Private.{rows_in, made_between, row_between}
-use Rattle.runner.specs.Stacks.{performed, Ready}
+use Rattle.runner.specs.PrivateStacks.{performed, Ready}
 use Rattle.runner.proofs.Written.{length_rows}
 
 -- ---- the larger and the smaller of two, in either order

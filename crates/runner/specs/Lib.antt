@@ -1,4 +1,4 @@
 -- What the contract on running a recipe cites, and what private contracts alone cite.
 pub mod Run
 pub mod Private
-pub mod Stacks
+pub mod PrivateStacks

@@ -1,4 +1,4 @@
--- Only private contracts cite these: the columns, and which of them have a position of a set.
+-- Only private contracts cite this: the columns, and which of them have a position of a set.
 use Rattle.std.specs.Prelude.{◌≡◌, Bool, false, ℕ, List, ◌≤◌, ◌<◌}
 use Rattle.std.specs.List.{range_with_len}
 use Rattle.limits.specs.Limits.{width}

@@ -5,7 +5,6 @@ use Rattle.night.proofs.read_piece.Goals as goal
 
 -- nothing came: the piece is empty
 pub returns-in_default : goal.returns-in_default
-unfolding judged
 returns-in_default g c =
     let old = c.args.text.now in
     let new = c.read_more.new.input in
