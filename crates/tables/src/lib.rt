@@ -79,7 +79,8 @@ struct Steady<'a> {
 impl<'a> Steady<'a> {
     // Refuses 12 at the least pattern on which the table slips.
     fn check(table: &'a [u8]) -> Result<Steady<'a>, Refusal>
-        ensures { MatchResult result (λ found. (found.table.now ≡ table.now) × (positive_checked table.now ≡ Ok tt)) (λ e. positive_checked table.now ≡ Err e) }
+        ensures { MatchResult result (λ found. (found.table.now ≡ table.now) × (positive_checked table.now ≡ Ok tt))
+            (λ why. positive_checked table.now ≡ Err why) }
     {
         match (0..PATTERNS).find(|&v| slips_on(table, v)) {
             Some(v) => Err(Refusal::NotPositive(v)),
