@@ -57,6 +57,7 @@ fn put_numbers(numbers: &[u64], out: &mut [u8]) -> usize
 }
 
 // Puts the line of what a count answered, and answers its length.
+#[tactic(auto, unfolding(crate::specs::Lines::counts_line, crate::specs::Lines::outcome_line))]
 fn put_answer(answer: Result<Counts, Notice>, out: &mut [u8]) -> usize
     requires { length out.old ≡ line_bytes }
     ensures { Put (outcome_line (Opened answer)) out.old out.new result }
@@ -81,6 +82,7 @@ fn put_answer(answer: Result<Counts, Notice>, out: &mut [u8]) -> usize
 }
 
 // Puts the line of what became of a file, and answers its length.
+#[tactic(auto, unfolding(crate::specs::Lines::line_of, crate::specs::Lines::unopened_word, crate::specs::Lines::unopened_line, crate::specs::Lines::outcome_line))]
 fn put_outcome(outcome: Outcome, out: &mut [u8]) -> usize
     requires { length out.old ≡ line_bytes }
     ensures { Put (outcome_line outcome) out.old out.new result }
@@ -100,6 +102,7 @@ pub fn in_order(totals: Totals) -> [u64; NUMBERS]
 
 // Writes the night sheet's line of a file: `unopened`, the five counts, or `refused`, number, place.
 // Refuses 10 where the slice has not 128 bytes, more than any such line has.
+#[tactic(auto, using(refusals::proofs::Shared::lent_fine, crate::proofs::Puts::put_writes))]
 pub fn outcome_line(outcome: Outcome, out: &mut [u8]) -> Result<usize, Refusal>
     ensures { Writes line_bytes (outcome_line outcome) out.old out.new result }
 {
@@ -108,6 +111,7 @@ pub fn outcome_line(outcome: Outcome, out: &mut [u8]) -> Result<usize, Refusal>
 }
 
 // Writes the line of a refused list, which is that of a refused file: `refused`, number, place. Refuses 10 as outcome_line does.
+#[tactic(auto, unfolding(crate::specs::Lines::outcome_line))]
 pub fn refused_line(refusal: Notice, out: &mut [u8]) -> Result<usize, Refusal>
     ensures { Writes line_bytes (refused_line refusal) out.old out.new result }
 {
@@ -123,6 +127,7 @@ pub fn line(file: &[u8], out: &mut [u8]) -> Result<usize, Refusal>
 }
 
 // Writes the night sheet's last line: its totals. Refuses 10 where the slice has not 512 bytes, more than any such line has.
+#[tactic(auto, using(refusals::proofs::Shared::lent_fine))]
 pub fn totals_line(totals: Totals, out: &mut [u8]) -> Result<usize, Refusal>
     ensures { Writes totals_bytes (totals_line totals) out.old out.new result }
 {

