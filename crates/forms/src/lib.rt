@@ -41,7 +41,7 @@ fn is_bad(width: usize, terms: &[u16], i: usize) -> bool
     is_over(width, terms[i]) || (0 < i && terms[i] <= terms[i - 1]) || contains_earlier(terms, i)
 }
 
-// Refuses the first bad term. It stops there: a list of any length costs at most one look more than the longest form has terms.
+// Refusal 7 at the first bad term. It stops there: a list of any length costs at most one look more than the longest form has terms.
 #[tactic(auto, unfolding(crate::specs::Check::terms_checked))]
 fn check_terms(width: usize, terms: &[u16]) -> Result<(), Refusal>
     ensures { result ≡ terms_checked width terms.now }

@@ -120,7 +120,7 @@ impl Judge {
         piece.iter().fold(self, |judge, &byte| judge.step(byte))
     }
 
-    // The verdict on a list that ends here: refuses over 250 lines, then the first line that is empty or too long.
+    // The verdict on a list that ends here: refuses 20 for over 250 lines, then 19 for the first line that is empty or too long.
     #[tactic(auto, unfolding(crate::specs::Judge::verdict_of), using(crate::proofs::Judges::not_over))]
     pub fn verdict(self) -> Result<(), Refusal>
         ensures { result ≡ verdict_of self }
@@ -135,8 +135,7 @@ impl Judge {
     }
 }
 
-// Checks a list that is at hand whole, and answers the number of its names. Refuses over 250 lines, then the first line that is empty or
-// too long.
+// Checks a list that is at hand whole, and answers the number of its names. Refuses 20, then 19.
 #[tactic(auto, using(crate::proofs::Cuts::verdict_whole, crate::proofs::Cuts::fine_few, crate::proofs::Cuts::names_told))]
 pub fn check(text: &[u8]) -> Result<usize, Refusal>
     ensures { CheckList text.now result }

@@ -105,7 +105,7 @@ impl From<Refusal> for Notice {
 
 // ---- what several calls check
 
-// Refuses fewer elements lent for terms than needed.
+// Refusal 6, where fewer elements are lent for terms than needed.
 #[tactic(auto, unfolding(crate::specs::Shared::room_checked))]
 pub fn check_room(needed: usize, lent: usize) -> Result<(), Refusal>
     ensures { result ≡ room_checked needed lent }
@@ -116,7 +116,7 @@ pub fn check_room(needed: usize, lent: usize) -> Result<(), Refusal>
     Ok(())
 }
 
-// Refuses a scan of no samples, or over the most that its family allows.
+// Refusal 9, where a scan has no samples or over the most that its family allows.
 #[tactic(auto, unfolding(crate::specs::Shared::scan_checked))]
 pub fn check_scan(most: usize, samples: usize) -> Result<(), Refusal>
     ensures { result ≡ scan_checked most samples }
@@ -127,7 +127,7 @@ pub fn check_scan(most: usize, samples: usize) -> Result<(), Refusal>
     Ok(())
 }
 
-// Refuses an output slice of another length than needed.
+// Refusal 10, where an output slice has another length than needed.
 #[tactic(auto, unfolding(crate::specs::Shared::lent_checked))]
 pub fn check_lent(needed: usize, lent: usize) -> Result<(), Refusal>
     ensures { result ≡ lent_checked needed lent }
