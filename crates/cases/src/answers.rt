@@ -14,10 +14,7 @@ pub fn checked(checked: Result<(), Refusal>, terms: usize) -> Result<[u64; 1], R
 }
 
 // The root question on so many samples: the first that differs, or their number where none does.
-pub fn rooted(
-    answer: Result<Option<usize>, Refusal>,
-    samples: usize,
-) -> Result<[u64; 1], Refusal> {
+pub fn rooted(answer: Result<Option<usize>, Refusal>, samples: usize) -> Result<[u64; 1], Refusal> {
     answer.map(|differs| [differs.unwrap_or(samples) as u64])
 }
 

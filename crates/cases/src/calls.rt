@@ -95,10 +95,11 @@ fn lend_words<R: Read, W: Write, F: FnOnce(&mut Wire<R, W>, &mut [u16]) -> Resul
     lend(wire, &mut room, call);
 }
 
-fn lend_residues<R: Read, W: Write, F: FnOnce(&mut Wire<R, W>, &mut [i32]) -> Result<usize, Refusal>>(
-    wire: &mut Wire<R, W>,
-    call: F,
-)
+fn lend_residues<
+    R: Read,
+    W: Write,
+    F: FnOnce(&mut Wire<R, W>, &mut [i32]) -> Result<usize, Refusal>,
+>(wire: &mut Wire<R, W>, call: F)
     requires { F.IsAlwaysCallable call }
 {
     let mut room: [i32; LENT_WORDS] = room::filled(i32::FILLER);
