@@ -22,8 +22,8 @@ use Rattle.totals.specs.declared.Totals.{Totals}
 use Rattle.totals.specs.Totals.{nothing, added}
 use Rattle.totals.specs.declared.Outcome.TheVariants.{Unopened}
 use Rattle.totals.specs.Nights.{OfFile, OfFiles, not_opened, running}
-use Rattle.std.specs.Prelude.{Result, Ok, Err, IfOk}
-use Rattle.std.specs.Result.{result_unwrap_or}
+use Rattle.std.specs.Prelude.{Option, Some, None, IfSome, Result, Ok, Err}
+use Rattle.std.specs.Option.{unwrap_or}
 use Rattle.totals.proofs.Nights.{night_exact}
 use Rattle.night.specs.Private.{Within, OfList}
 
@@ -36,10 +36,10 @@ line_within room text old new (Err r) e p same =
     let never = rw (e, eq-eqb room room refl) at p.answer in
     absurd (cc)
 
--- a file that was not opened or not read is not opened
-pub opened_or : {E : Type 0} (r : Result Outcome E) → IfOk r OfFile → OfFile (result_unwrap_or r Unopened)
-opened_or (Ok o) p = p
-opened_or (Err e) p = not_opened
+-- a file that cannot be opened and read is not opened
+pub opened_or : (r : Option Outcome) → IfSome r OfFile → OfFile (unwrap_or r Unopened)
+opened_or (Some o) p = p
+opened_or None p = not_opened
 
 -- so far on the sheet: the line at hand begins at a place of the list
 abbrev pub SoFar : List ℕ → ℕ → Totals → Type 0

@@ -11,7 +11,7 @@
 // sheet where standard error is empty.
 #![tactic(auto)]
 
-ghost use Rattle.std.specs.Prelude.{◌≡◌, List, ℕ, ◌+◌, ◌≤◌, length, IfOk, Ok};
+ghost use Rattle.std.specs.Prelude.{◌≡◌, List, ℕ, ◌+◌, ◌≤◌, length, IfOk, IfSome, Ok};
 ghost use Rattle.io.specs.Counts.{IsPrefixLen};
 ghost use Rattle.limits.specs.Limits.{longest_list};
 ghost use Rattle.refusals.specs.Numbers.{noticed};
@@ -25,40 +25,20 @@ ghost use Rattle.night.specs.Private.{next_place, Judged, Reached, Accepts, With
 use limits::{LINE_BYTES, LONGEST_LIST, TOTALS_BYTES};
 use lists::Judge;
 use refusals::Refusal;
-use std::fmt::{self, Display, Formatter};
-use std::io::{self, Error, Read, Write};
+use std::io::{self, Read, Write};
 use std::ops::ControlFlow;
 use std::process::ExitCode;
 use std::rt::Files;
-use system::{FILE_ROOM, MOST_READS, Numbered, Source, TooLong};
+use system::{FILE_ROOM, Failure, MOST_READS, Source, TooLong};
 use totals::{Outcome, Totals};
 
 // One byte more than the longest list that is accepted has, so that one which fills it is refused.
 const LIST_ROOM: usize = LONGEST_LIST + 1;
 
-// What could not be done.
-#[derive(Clone, Copy)]
-enum Failure {
-    Unread(Error),
-    Unwritten(Error),
-}
+// What is said where something could not be done.
+const UNREAD: &str = "night: no sheet is printed, since standard input could not be read";
 
-impl Display for Failure {
-    fn fmt<W: fmt::Write>(&self, f: &mut Formatter<W>) -> fmt::Result {
-        match self {
-            Failure::Unread(error) => write!(
-                f,
-                "night: no sheet is printed, since standard input could not be read; error {}",
-                Numbered(*error)
-            ),
-            Failure::Unwritten(error) => write!(
-                f,
-                "night: the sheet could not be written whole; error {}",
-                Numbered(*error)
-            ),
-        }
-    }
-}
+const UNWRITTEN: &str = "night: the sheet could not be written whole";
 
 // ---- the list
 
@@ -76,7 +56,8 @@ struct Reading {
     bytes: usize,
 }
 
-// Where the next piece goes: behind the bytes that there are, and in a full slice at its start.
+// Where the next piece goes: behind the bytes that there are, and in a full slice at its start. (bytes % room is no plainer: it owes that
+// there is room.)
 fn next_place(bytes: usize, room: usize) -> usize
     ensures { result ≡ next_place bytes room }
 {
@@ -149,21 +130,6 @@ fn outcome_of_read(file: Result<&[u8], TooLong>) -> Outcome
     }
 }
 
-// What becomes of a file that can be opened and read. It is closed before this answers.
-fn open_and_count<R: Files>(
-    files: &R,
-    name: &[u8],
-    room: &mut [u8; FILE_ROOM],
-) -> io::Result<Outcome>
-where
-    R::File: Source,
-    ensures { IfOk result OfFile }
-{
-    let mut file = system::open(files, name)?;
-    let length = system::read_file(&mut file, room)?;
-    Ok(outcome_of_read(system::file_in(room, length)))
-}
-
 // ---- the sheet
 
 // Where the sheet is printed, and whence its files come, with room for one of them.
@@ -178,27 +144,39 @@ impl<R: Files, W: Write> Sheet<'_, R, W>
 where
     R::File: Source,
 {
+    // What becomes of a file that can be opened and read; none where it cannot. It is closed before this answers.
+    fn open_and_count(&mut self, name: &[u8]) -> Option<Outcome>
+        ensures { IfSome result OfFile }
+    {
+        if !system::is_file(self.files, name) {
+            return None;
+        }
+        let mut file = system::open(self.files, name).ok()?;
+        let length = system::read_file(&mut file, &mut self.room).ok()?;
+        Some(outcome_of_read(system::file_in(&self.room, length)))
+    }
+
     // What becomes of a file.
+    #[tactic(auto, using(crate::proofs::Sheets::opened_or))]
     fn outcome_of(&mut self, name: &[u8]) -> Outcome
         ensures { OfFile result }
     {
-        if !system::is_file(self.files, name) {
-            return Outcome::Unopened;
-        }
-        open_and_count(self.files, name, &mut self.room).unwrap_or(Outcome::Unopened)
+        self.open_and_count(name).unwrap_or(Outcome::Unopened)
     }
 
     // Prints the line that a call has written to its room.
     fn print_line(&mut self, answer: Result<usize, Refusal>, room: &[u8]) -> Result<(), Failure>
         requires { Within (length room.now) answer }
     {
-        let Ok(n) = answer else {
-            // As many bytes are lent as each call wants, so none refuses.
-            unreachable!();
-        };
-        system::write_line(&mut self.out, &room[..n]).map_err(Failure::Unwritten)
+        // As many bytes are lent as each call wants, so none refuses.
+        let n = answer.unwrap();
+        system::write_line(&mut self.out, &room[..n]).map_err(|error| Failure {
+            sentence: UNWRITTEN,
+            error,
+        })
     }
 
+    // (One function for this line and that of the totals is no plainer: it takes the call as a closure, and a clause for what that answers.)
     fn print_outcome(&mut self, outcome: Outcome) -> Result<(), Failure> {
         let mut line = [0u8; LINE_BYTES];
         let answer = lines::outcome_line(outcome, &mut line);
@@ -212,7 +190,8 @@ where
     }
 
     // Prints the line of each file of a list that is accepted, up to one that cannot be written. Answers the totals of all of them.
-    // (A line is as long as it is, so `while` steps from one to the next. std's split gives an empty piece more behind a line end.)
+    // (Tried as a `for` over text.split_inclusive(..), and the proof did not close: in this generic method rattle makes no well-typed
+    // `iterator-loop-line`, which the invariant of such a loop is checked with.)
     fn print_files(&mut self, text: &[u8]) -> Result<Totals, Failure>
         requires { list_checked text.now ≡ Ok tt }
         ensures { IfOk result (OfList text.now) }
@@ -244,7 +223,10 @@ where
     R::File: Source,
 {
     let mut text = list_room();
-    let reading = read_list(list, &mut text).map_err(Failure::Unread)?;
+    let reading = read_list(list, &mut text).map_err(|error| Failure {
+        sentence: UNREAD,
+        error,
+    })?;
     let mut sheet = Sheet {
         files,
         out,

@@ -12,35 +12,15 @@ ghost use Rattle.system.specs.Reads.{IsFile};
 
 use limits::LINE_BYTES;
 use refusals::Refusal;
-use std::fmt::{self, Display, Formatter};
-use std::io::{Error, Write};
+use std::io::Write;
 use std::process::ExitCode;
-use system::{Numbered, Source, StandardInput, TooLong};
+use system::{Failure, Source, StandardInput, TooLong};
 use totals::Outcome;
 
-// What could not be done.
-#[derive(Clone, Copy)]
-enum Failure {
-    Unread(Error),
-    Unwritten(Error),
-}
+// What is said where something could not be done.
+const UNREAD: &str = "report: no line is printed, since standard input could not be read";
 
-impl Display for Failure {
-    fn fmt<W: fmt::Write>(&self, f: &mut Formatter<W>) -> fmt::Result {
-        match self {
-            Failure::Unread(error) => write!(
-                f,
-                "report: no line is printed, since standard input could not be read; error {}",
-                Numbered(*error)
-            ),
-            Failure::Unwritten(error) => write!(
-                f,
-                "report: the line could not be written whole; error {}",
-                Numbered(*error)
-            ),
-        }
-    }
-}
+const UNWRITTEN: &str = "report: the line could not be written whole";
 
 // Writes the line of a file. Of one that is too long, its length alone decides.
 fn write_line(file: Result<&[u8], TooLong>, line: &mut [u8]) -> Result<usize, Refusal>
@@ -58,14 +38,18 @@ fn write_line(file: Result<&[u8], TooLong>, line: &mut [u8]) -> Result<usize, Re
 // Reads a file and prints its line.
 fn report<S: Source, W: Write>(input: &mut S, out: &mut W) -> Result<(), Failure> {
     let mut room = system::file_room();
-    let length = system::read_file(input, &mut room).map_err(Failure::Unread)?;
+    let length = system::read_file(input, &mut room).map_err(|error| Failure {
+        sentence: UNREAD,
+        error,
+    })?;
     let mut line = [0u8; LINE_BYTES];
     let file = system::file_in(&room, length);
-    let Ok(n) = write_line(file, &mut line) else {
-        // As many bytes are lent as the call wants, so it does not refuse.
-        unreachable!();
-    };
-    system::write_line(out, &line[..n]).map_err(Failure::Unwritten)
+    // As many bytes are lent as the call wants, so it does not refuse.
+    let n = write_line(file, &mut line).unwrap();
+    system::write_line(out, &line[..n]).map_err(|error| Failure {
+        sentence: UNWRITTEN,
+        error,
+    })
 }
 
 fn main(rt: HostRuntime) -> ExitCode {

@@ -21,4 +21,4 @@ pub use input::{
 pub use long::TooLong;
 pub use names::{is_file, open};
 pub use places::StandardInput;
-pub use tell::{Numbered, exit_code, has_argument, write_line};
+pub use tell::{Failure, exit_code, has_argument, write_line};

@@ -18,16 +18,21 @@ pub fn has_argument<R: Env>(rt: &R) -> bool {
     !matches!(rt.arg(1, &mut first), Err(FillError::NotPresent))
 }
 
-// An error as the programs say it: its number, where the system gave it one, and the system's words for it.
+// What could not be done, and why. It is said as a sentence, the error's number, where the system gave it one, and the system's words
+// for it.
 #[derive(Clone, Copy)]
-pub struct Numbered(pub Error);
+pub struct Failure {
+    pub sentence: &'static str,
+    pub error: Error,
+}
 
-impl Display for Numbered {
+impl Display for Failure {
     fn fmt<W: fmt::Write>(&self, f: &mut Formatter<W>) -> fmt::Result {
-        if let Some(number) = self.0.raw_os_error() {
+        write!(f, "{}; error ", self.sentence)?;
+        if let Some(number) = self.error.raw_os_error() {
             write!(f, "{number}")?;
         }
-        let text = InlineText::<WORDS>::of(self.0);
+        let text = InlineText::<WORDS>::of(self.error);
         write!(f, ": {}", words_alone(text.as_str()))
     }
 }
