@@ -51,13 +51,12 @@ impl From<u16> for Call {
 pub fn make<R: Read, W: Write>(wire: &mut Wire<R, W>, call: Call, record: Record<'_>) {
     let Record { terms, scan, bytes } = record;
     match call {
-        Call::Check => wire.answer(answers::checked(
-            forms::check(limits::WIDTH, terms),
-            terms.len(),
-        )),
+        Call::Check => wire.value(forms::check(limits::WIDTH, terms).map(|_| terms.len())),
         Call::Clean => lend_words(wire, |_, lent| scans::clean(terms, scan, lent)),
         Call::Residue => lend_residues(wire, |_, lent| scans::residue(terms, scan, lent)),
-        Call::Root => wire.answer(answers::rooted(scans::root(terms, scan), scan.len())),
+        Call::Root => {
+            wire.value(scans::root(terms, scan).map(|differs| differs.unwrap_or(scan.len())))
+        }
         Call::TableToForm => lend_words(wire, |_, lent| tables::table_to_form(bytes, lent)),
         Call::FormToTable => lend_bytes(wire, |_, lent| tables::form_to_table(terms, lent)),
         Call::Preset => lend_words(wire, |wire, lent| presets::preset(wire.number(), lent)),
@@ -115,7 +114,7 @@ fn lend<T: Lent, R: Read, W: Write, F: FnOnce(&mut Wire<R, W>, &mut [T]) -> Resu
 {
     let lent = wire.lend(room);
     let answer = call(wire, lent);
-    wire.answer(answers::done(answer));
+    wire.value(answer);
     wire.elements(lent);
 }
 

@@ -2,8 +2,8 @@
 //
 // Bytes are lent with a filler everywhere, as many as stand next in the record. They are printed behind the
 // answer, as the call left them, and then the line that was written.
+use crate::pieces;
 use crate::records::Record;
-use crate::{answers, pieces};
 use lines::NUMBERS;
 use refusals::{Notice, Refusal};
 use reports::Counts;
@@ -76,12 +76,12 @@ pub fn make<R: Read, W: Write>(wire: &mut Wire<R, W>, call: Call, record: Record
 // ---- lists
 
 fn check_list<R, W: Write>(wire: &mut Wire<R, W>, text: &[u8]) {
-    wire.answer(answers::done(lists::check(text)));
+    wire.value(lists::check(text));
 }
 
 fn line_end<R: Read, W: Write>(wire: &mut Wire<R, W>, text: &[u8]) {
     let at = wire.number() as usize;
-    wire.answer(Ok([lists::line_end(text, at) as u64]));
+    wire.value(Ok(lists::line_end(text, at)));
 }
 
 // ---- outcomes and totals
@@ -141,7 +141,7 @@ fn lend<R: Read, W: Write, F: FnOnce(&mut Wire<R, W>, &mut [u8]) -> Result<usize
     let mut room: [u8; LENT_BYTES] = room::filled(u8::FILLER);
     let lent = wire.lend(&mut room);
     let answer = call(wire, lent);
-    wire.answer(answers::done(answer));
+    wire.value(answer);
     wire.elements(lent);
     if let Ok(n) = answer {
         print_line(wire, lent, n);

@@ -1,5 +1,4 @@
 // A list that is judged piece by piece, as a program reads it.
-use crate::answers;
 use crate::records::Record;
 use lists::Judge;
 use std::io::Write;
@@ -29,6 +28,7 @@ pub fn judge<R, W: Write>(wire: &mut Wire<R, W>, record: Record<'_>) {
         judge = judge.judge_piece(piece);
         rest = later;
     }
-    wire.answer(answers::judged(judge.verdict()));
+    // A verdict has no value, and its line has 0.
+    wire.value(judge.verdict().map(|_| 0));
     wire.word(pieces);
 }

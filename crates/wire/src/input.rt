@@ -95,8 +95,10 @@ impl<R: Read, W> Wire<R, W> {
     {
         let unit = self.slice(room).len();
         let run = self.lend(room);
-        for i in unit..run.len() {
-            run[i] = run[i - unit];
+        if let Some((first, rest)) = run.split_at_mut_checked(unit) {
+            for (slot, byte) in rest.iter_mut().zip(first.iter().cycle()) {
+                *slot = *byte;
+            }
         }
         run
     }

@@ -45,6 +45,11 @@ impl<R, W: Write> Wire<R, W> {
         }
     }
 
+    // What a call of one value answered.
+    pub fn value(&mut self, answer: Result<usize, Refusal>) {
+        self.answer(answer.map(|n| [n as u64]));
+    }
+
     // The elements of a slice that was lent, or the checksum of more than forty.
     pub fn elements<T: Copy + Into<i64>>(&mut self, lent: &[T]) {
         self.print(b" :");
