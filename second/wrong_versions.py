@@ -15,10 +15,11 @@ The arguments stand in the order of wire.py, and a lent slice is its length. In 
 255*64 is 255 sixty-four times, and (97 10)*250 is 97 10 two hundred and fifty times; a recipe is its
 steps: signal, rank 2 56, larger; an outcome is its line: 5 1 1 80 0, unopened, refused 9 0. A sheet
 of the program `night` has / between its lines, and 250 unopened is so many lines in turn; sheet_of_length
-40000 is that of one file, of so many bytes. An edit of a definition says "asks" in place of "gives": the
+40000 is that of one file, of so many bytes, each 0. An edit of a definition says "asks" in place of "gives": the
 line that the definition would ask for.
 
-An edit of `system`, what the programs ask of the system, that no such call shows says instead when it goes wrong:
+An edit of `system`, what the programs ask of the system, or of `wire`, that no such call shows says instead when it goes
+wrong. (No stream of calls asks `wire` for more than the room there is.)
 
     no call: the input is a pipe that gives a part of the file at a time
 
@@ -48,6 +49,10 @@ PROMISES = ROOT / "docs" / "PROMISES.md"
 Shown = namedtuple("Shown", "call text right wrong")
 # Where an edit stands, whether it is of code, what it replaces, and the calls that it names.
 Edit = namedtuple("Edit", "name crate of_code changes shown")
+
+
+# The crates with edits that no call shows.
+NOT_SHOWN = ("system", "wire")
 
 
 # ---- what an edit says
@@ -116,7 +121,7 @@ def edit_in(path):
         elif key == "new":
             changes.append((file, old, rest[1:]))
     of_code = file.startswith("src/")
-    if crate == "system" and [key for key, _ in says] == ["no call"]:
+    if crate in NOT_SHOWN and [key for key, _ in says] == ["no call"]:
         return Edit(name, crate, of_code, changes, [])
     wanted = ["call", "right", "gives" if of_code else "asks"]
     if not says or [key for key, _ in says] != wanted * (len(says) // len(wanted)):

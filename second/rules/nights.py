@@ -5,7 +5,7 @@ An outcome is the fields of the file's line: five counts, `refused` with its num
 """
 
 from .limits import LARGEST_TOTAL
-from .lines import fields_of, fields_of_long, outcome_line, refused_fields, text_of
+from .lines import fields_of, outcome_line, refused_fields, text_of
 from .lists import names_in
 from .refusals import Refused
 
@@ -55,8 +55,8 @@ def sheet_of_none(text):
 
 
 def sheet_of_length(length):
-    """The sheet of one file, which has so many bytes and is too long."""
-    return sheet(b"long", lambda name: fields_of_long(length))
+    """The sheet of one file, which has so many bytes, each 0."""
+    return sheet(b"long", lambda name: fields_of(bytes(length)))
 
 
 # ---- the calls
