@@ -179,7 +179,6 @@ def check(edits):
 
 TYPES = {TERMS: "u16", SCAN: "u16", BYTES: "u8",
          LENT_BYTES: "u8", LENT_WORDS: "u16", LENT_RESIDUES: "i32"}
-PRINTS = {LENT_BYTES: "bytes", LENT_WORDS: "words", LENT_RESIDUES: "residues"}
 
 
 def slice_of(kind, elements):
@@ -195,12 +194,12 @@ def function(place, a_call):
         if kind in FILLERS:
             made.append("let mut lent%d = [%d%s; %d];" % (i, FILLERS[kind], TYPES[kind], given))
             passed.append("&mut lent%d" % i)
-            printed.append("output::%s(out, &lent%d);" % (PRINTS[kind], i))
+            printed.append("wire.elements(&lent%d);" % i)
         elif kind == LENT_TOTALS:
             made.append("let mut totals = [%s];" % ", ".join("%du64" % number for number in given))
             passed.append("&mut totals")
-            printed.append('output::text(out, b" :");')
-            printed += ["output::word(out, totals[%d]);" % k for k in range(len(given))]
+            printed.append('wire.print(b" :");')
+            printed += ["wire.word(totals[%d]);" % k for k in range(len(given))]
         else:
             passed.append(str(given) if kind == NUMBER else slice_of(kind, given))
     if a_call.name == "count":
@@ -213,24 +212,24 @@ def function(place, a_call):
         passed.append("&mut terms_read")
         values.append("terms_read as u64")
     body = [
-        'output::text(out, b"%s");' % a_call.name,
+        'wire.print(b"%s");' % a_call.name,
         "let mut value: usize = 0;",
         *made,
         "let result = exports::sf_%s(%s);" % (a_call.name, ", ".join(passed)),
-        "output::word(out, result as u64);",
-        "if result == 0 { %s } else { output::word(out, value as u64); }"
-        % " ".join("output::word(out, %s);" % value for value in values),
+        "wire.word(result as u64);",
+        "if result == 0 { %s } else { wire.word(value as u64); }"
+        % " ".join("wire.word(%s);" % value for value in values),
         *printed,
-        "output::end_of_line(out);",
+        'wire.print(b"\\n");',
     ]
-    return "fn call%d<W: Write>(out: &mut W) {\n%s\n}\n" % (place, "\n".join(body))
+    return "fn call%d<R, W: Write>(wire: &mut Wire<R, W>) {\n%s\n}\n" % (place, "\n".join(body))
 
 
 def program(calls):
     functions = [function(place, a_call) for place, a_call in enumerate(calls)]
-    made = " ".join("call%d(&mut rt.stdout());" % place for place in range(len(calls)))
-    main = "fn main(rt: HostRuntime) { %s }\n" % made
-    return "".join(["#![tactic(auto)]\nuse std::io::Write;\nuse wire::output;\n", *functions, main])
+    made = " ".join("call%d(&mut wire);" % place for place in range(len(calls)))
+    main = "fn main(rt: HostRuntime) { let mut wire = Wire::new(rt.stdin(), rt.stdout()); %s }\n" % made
+    return "".join(["#![tactic(auto)]\nuse std::io::Write;\nuse wire::Wire;\n", *functions, main])
 
 
 # ---- running it

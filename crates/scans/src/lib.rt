@@ -26,9 +26,9 @@ fn take_in(near: [u16; WIDTH], arriving: u16) -> [u16; WIDTH]
     ensures { result ≡ moved_on window near arriving }
 {
     let mut seen = near;
-    for i in 0..WIDTH {
+    for (i, value) in seen.iter_mut().enumerate() {
         let from = windows::position(windows::column(i) + 1);
-        seen[i] = near.get(from).copied().unwrap_or(arriving);
+        *value = near.get(from).copied().unwrap_or(arriving);
     }
     seen
 }
@@ -101,7 +101,7 @@ impl<'a> Run<'a> {
     }
 
     // What the window sees just before the first sample: far to the left it sees what stands there alone, and then the first samples
-    // arrive.
+    // arrive. (Tried as a fold over the range, whose proof did not close: what a range yields to a fold has no name in an answer.)
     fn enter(&self) -> [u16; WIDTH]
         ensures { result ≡ carried window (between self.now.ends.left self.now.ends.right self.now.scan.now) (negsuc 0) }
     {
@@ -136,8 +136,8 @@ impl<'a> Run<'a> {
         self.scan.len()
     }
 
-    // The first sample that is not what the form gives around it, if there is one. It carries the window as `fill` does: a walk that owns
-    // it would have to count its own x, so that is no plainer.
+    // The first sample that is not what the form gives around it, if there is one. It carries the window as `fill` does: the scan's own
+    // iterator would load each sample a second time, which docs/DECISIONS.md ("The window that is carried") rules out.
     fn find_difference(&self) -> Option<usize>
         ensures { let run = self.now in
             result ≡ root_found (value_around run.ends.left run.ends.right run.terms.now run.scan.now) run.scan.now }
@@ -178,7 +178,8 @@ pub fn clean(terms: &[u16], scan: &[u16], out: &mut [u16]) -> Result<usize, Refu
 }
 
 // The residue of a form on a scan: raw minus cleaned at each sample, -65,535 to 65,535, goes to out, and the answer is the number of
-// samples. Refuses 7, 8, 9, 10 in this order, as `clean` does; a refusal changes no element of out.
+// samples. Refuses 7, 8, 9, 10 in this order, as `clean` does; a refusal changes no element of out. (A twin of `clean` in shape alone:
+// each is a call of C, so both names stay.)
 pub fn residue(terms: &[u16], scan: &[u16], out: &mut [i32]) -> Result<usize, Refusal>
     ensures { Residue terms.now scan.now out.old out.new result }
 {

@@ -6,4 +6,4 @@ use Rattle.windows.specs.Columns.{position_in}
 use Rattle.scans.proofs.take_in.Given as goal
 
 abbrev pub invariant-loop-i : goal.invariant-loop-i
-invariant-loop-i l = Filled (λ k. get_or l.near (position_in (window.column k + 1)) l.arriving) l.initial.seen l.seen l.i
+invariant-loop-i l = Filled (λ k. get_or l.near (position_in (window.column k + 1)) l.arriving) l.near l.value-items l.i
