@@ -1,42 +1,19 @@
 -- The difference of two counts as a residue: when it is a change, its sign, and how far it lies above or below 0.
 -- Assumes nothing.
-use mathlib.Core.Path.{◌≡◌, refl}
+use mathlib.Core.Path.{◌≡◌, refl, sym, ap}
 use mathlib.Core.Bool.{Bool, true, false, not, cond}
 use mathlib.Core.Logic.{◌⊎◌, inl, inr}
 use Prim.Native.Nat.{ℕ, suc, ◌-◌, ◌≤◌, ◌<◌}
 use native.Mathlib.Omega.{arith}
-use lib.Dec.{ltb, eqb}
+use lib.Dec.{eqb}
 use lib.IntN.{ℤ, pos, ◌-ℤ◌}
-use lib.Signed.{non_neg}
-use borrow.Author.Tests.{eqb-true, eqb-false, ltb-true, ne_eqb, lt-ltb, le-ltb}
-use Rattle.theory.proofs.Tests.{which}
+use lib.Signed.{non_neg, mag}
+use borrow.Author.Tests.{lt-ltb}
 use Rattle.theory.proofs.Differences.{side, minus_high, minus_low}
-use Rattle.std.specs.Prelude.{◌==◌}
-use Rattle.std.specs.Int.{from_bool}
+use Rattle.std.specs.Int.{from_bool, int_signum, int_max, int_min}
+use Rattle.std.proofs.Common.{of_z, to_z, to_z-of_z, w64, ◌^◌, negsuc, zero, min, unsigned_abs}
 use Rattle.theory.specs.Lists.{bit}
-use Rattle.std.specs.Ordering.{nat_cmp, ordering_index, is_ne}
-use Rattle.std.specs.declared.cmp.Ordering.{Ordering}
-use Rattle.std.specs.declared.cmp.Ordering.TheVariants.{Less, Equal, Greater}
 use Rattle.reports.specs.Counts.{is_change, kind_of, above, below}
-use Rattle.reports.specs.Private.{kind_of_sign}
-
-pub change_difference : (a b : ℕ) → is_change (pos a -ℤ pos b) ≡ not (eqb a b)
-unfolding is_change
-change_difference a b = go (side a b) (which (eqb a b))
-  where
-    go : (a < b) ⊎ (b ≤ a) → (eqb a b ≡ true) ⊎ (eqb a b ≡ false) → is_change (pos a -ℤ pos b) ≡ not (eqb a b)
-    go (inl l) e = rw (minus_low a b l, ne_eqb a b (λ q. omega arith)) (lt-ltb 0 (suc (b - suc a)) (omega arith))
-    go (inr l) (inl e) = let z : a - b ≡ 0 = omega (arith, eqb-true a b e) in rw (minus_high a b l, z, e)
-    go (inr l) (inr e) =
-        let ne : a ≡ b → ⊥ = eqb-false a b e in
-        rw (minus_high a b l, e) (lt-ltb 0 (a - b) (omega arith))
-
-pub sign_difference : (a b : ℕ) → non_neg (pos a -ℤ pos b) ≡ not (ltb a b)
-sign_difference a b = go (side a b)
-  where
-    go : (a < b) ⊎ (b ≤ a) → non_neg (pos a -ℤ pos b) ≡ not (ltb a b)
-    go (inl l) = rw (minus_low a b l, lt-ltb a b l)
-    go (inr l) = rw (minus_high a b l, le-ltb a b l)
 
 pub above_difference : (a b : ℕ) → above (pos a -ℤ pos b) ≡ a - b
 above_difference a b = go (side a b)
@@ -52,18 +29,49 @@ below_difference a b = go (side a b)
     go (inl l) = rw (minus_low a b l) (omega arith)
     go (inr l) = rw (minus_high a b l) (omega arith)
 
--- ---- the sign, as the order of the two
+-- ---- the sign, as a number
 
-pub sign_kind : (a b : ℕ) → kind_of_sign (nat_cmp a b) ≡ kind_of (pos a -ℤ pos b)
-unfolding kind_of
-sign_kind a b = rw (change_difference a b, sign_difference a b) (go (which (ltb a b)) (which (eqb a b)))
+-- what fits an i64 is read back
+pub read : (z : ℤ) → mag z < 2 ^ 63 → to_z w64 (of_z w64 z) ≡ z
+read z h = to_z-of_z {w = w64} {z = z} (record { sfits = h })
+
+-- it is 0, 1 or -1
+signs : (s : ℤ) → int_signum s ≡ s → (s ≡ pos 0) ⊎ ((s ≡ pos 1) ⊎ (s ≡ negsuc 0))
+signs (pos zero) e = inl refl
+signs (pos (suc zero)) e = inr (inl refl)
+signs (pos (suc (suc n))) e = let one : min (suc (suc n)) 1 ≡ suc (suc n) = ap unsigned_abs e in absurd (omega (arith, one))
+signs (negsuc n) e = inr (inr (sym e))
+
+pub sign_kind : (r : ℤ) → kind_of (int_signum r) ≡ kind_of r
+unfolding kind_of is_change
+sign_kind (pos zero) = refl
+sign_kind (pos (suc n)) = let one : min (suc n) 1 ≡ 1 = omega arith in rw one (sym (ap (λ (b : Bool). cond b 1 0) (lt-ltb 0 (suc n) (omega arith))))
+sign_kind (negsuc n) = sym (ap (λ (b : Bool). cond b 2 0) (lt-ltb 0 (suc n) (omega arith)))
+
+pub sign_sign : (r : ℤ) → int_signum (int_signum r) ≡ int_signum r
+sign_sign (pos n) = let one : min (min n 1) 1 ≡ min n 1 = omega arith in ap pos one
+sign_sign (negsuc n) = refl
+
+-- two signs are one where their kinds are
+pub signs_kinds : (s p : ℤ) → int_signum s ≡ s → int_signum p ≡ p → eqb (of_z w64 s) (of_z w64 p) ≡ eqb (kind_of s) (kind_of p)
+unfolding kind_of is_change
+signs_kinds s p d e = go (signs s d) (signs p e)
   where
-    go : (ltb a b ≡ true) ⊎ (ltb a b ≡ false) → (eqb a b ≡ true) ⊎ (eqb a b ≡ false)
-        → kind_of_sign (nat_cmp a b) ≡ cond (not (eqb a b)) (cond (not (ltb a b)) 1 2) 0
-    go (inl l) (inl e) = let l : a < b = ltb-true a b l in let e : a ≡ b = eqb-true a b e in absurd (omega arith)
-    go (inl l) (inr e) = rw (l, e)
-    go (inr l) (inl e) = rw (l, e)
-    go (inr l) (inr e) = rw (l, e)
+    go : (s ≡ pos 0) ⊎ ((s ≡ pos 1) ⊎ (s ≡ negsuc 0)) → (p ≡ pos 0) ⊎ ((p ≡ pos 1) ⊎ (p ≡ negsuc 0))
+        → eqb (of_z w64 s) (of_z w64 p) ≡ eqb (kind_of s) (kind_of p)
+    go (inl s) (inl p) = rw (s, p)
+    go (inl s) (inr (inl p)) = rw (s, p)
+    go (inl s) (inr (inr p)) = rw (s, p)
+    go (inr (inl s)) (inl p) = rw (s, p)
+    go (inr (inl s)) (inr (inl p)) = rw (s, p)
+    go (inr (inl s)) (inr (inr p)) = rw (s, p)
+    go (inr (inr s)) (inl p) = rw (s, p)
+    go (inr (inr s)) (inr (inl p)) = rw (s, p)
+    go (inr (inr s)) (inr (inr p)) = rw (s, p)
+
+pub sign_none : (s : ℤ) → int_signum s ≡ s → eqb (of_z w64 s) 0 ≡ eqb (kind_of s) 0
+unfolding kind_of is_change
+sign_none s e = signs_kinds s (pos 0) e refl
 
 -- a residue is a change where it is of a kind
 pub change_kind : (r : ℤ) → is_change r ≡ not (eqb (kind_of r) 0)
@@ -80,20 +88,12 @@ unfolding bit
 byte_bit true = refl
 byte_bit false = refl
 
--- a sample changed where it has a sign
-pub sign_change : (s : Ordering) → is_ne s ≡ not (eqb (kind_of_sign s) 0)
-sign_change Less = refl
-sign_change Equal = refl
-sign_change Greater = refl
+pub above_max : (r : ℤ) → unsigned_abs (int_max r (pos 0)) ≡ above r
+above_max (pos zero) = refl
+above_max (pos (suc n)) = ap (λ (b : Bool). unsigned_abs (cond b (pos (suc n)) (pos 0))) (lt-ltb 0 (suc n) (omega arith))
+above_max (negsuc n) = refl
 
--- two signs are one where their kinds are
-pub signs_kinds : (s p : Ordering) → not (ordering_index s == ordering_index p) ≡ not (eqb (kind_of_sign s) (kind_of_sign p))
-signs_kinds Less Less = refl
-signs_kinds Less Equal = refl
-signs_kinds Less Greater = refl
-signs_kinds Equal Less = refl
-signs_kinds Equal Equal = refl
-signs_kinds Equal Greater = refl
-signs_kinds Greater Less = refl
-signs_kinds Greater Equal = refl
-signs_kinds Greater Greater = refl
+pub below_min : (r : ℤ) → unsigned_abs (int_min r (pos 0)) ≡ below r
+below_min (pos zero) = refl
+below_min (pos (suc n)) = ap (λ (b : Bool). unsigned_abs (cond b (pos 0) (pos (suc n)))) (lt-ltb 0 (suc n) (omega arith))
+below_min (negsuc n) = refl

@@ -102,18 +102,12 @@ fn offset(column: usize) -> i32
 pub fn least_offset(set: u16) -> i32
     ensures { (result ≡ leftmost (offsets window set)) × (mag result ≤ reach) }
 {
-    match find_least(set) {
-        Some(k) => offset(k),
-        None => 0,
-    }
+    find_least(set).map_or(0, offset)
 }
 
 // The greatest offset of a set; 0 where it has none.
 pub fn greatest_offset(set: u16) -> i32
     ensures { (result ≡ rightmost (offsets window set)) × (mag result ≤ reach) }
 {
-    match find_greatest(set) {
-        Some(k) => offset(k),
-        None => 0,
-    }
+    find_greatest(set).map_or(0, offset)
 }

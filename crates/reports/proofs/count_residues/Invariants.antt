@@ -1,10 +1,10 @@
 -- `reports::count_residues` meets its contract. Assumes nothing.
 use Rattle.std.proofs.Common.{ℕ, ◌*◌, ◌≤◌, ◌≡◌, List, length, get_or, ℤ, pos, ◌-ℤ◌}
+use Rattle.std.specs.Int.{int_signum}
 use Rattle.limits.specs.Limits.{top}
 use Rattle.theory.specs.Lists.{bit, sum}
 use Rattle.reports.specs.Counts.{is_change, kind_of, above, below}
 use Rattle.reports.specs.declared.Counts.{Counts}
-use Rattle.reports.specs.Private.{kind_of_sign}
 use Rattle.reports.proofs.Spikes.{kind_before, starts_at}
 use Rattle.reports.proofs.count_residues.Given as goal
 
@@ -26,4 +26,4 @@ pub record Sums (scan cleaned : List ℕ) (c : Counts) (n : ℕ) : Type 0 where
 
 abbrev pub invariant-loop-x : goal.invariant-loop-x
 invariant-loop-x l =
-    Sums l.scan l.cleaned l.counts l.x × (l.counts.samples ≡ length l.scan) × (kind_of_sign l.before ≡ kind_before (kinds l.scan l.cleaned) l.x)
+    Sums l.scan l.cleaned l.counts l.x × (l.counts.samples ≡ length l.scan) × (int_signum l.before ≡ l.before) × (kind_of l.before ≡ kind_before (kinds l.scan l.cleaned) l.x)
