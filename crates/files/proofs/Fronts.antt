@@ -6,7 +6,7 @@ use mathlib.Core.Path.{◌≡◌, sym, ap, ◌∙◌}
 use mathlib.Core.Bool.{true, false}
 use mathlib.Core.List.{List}
 use mathlib.Core.Logic.{◌⊎◌, inl, inr}
-use Prim.Native.Nat.{ℕ, ◌^◌, ◌<◌, ◌≤◌, min}
+use Prim.Native.Nat.{ℕ, ◌+◌, ◌*◌, ◌^◌, ◌<◌, ◌≤◌, min}
 use native.Mathlib.Omega.{arith}
 use lib.Dec.{ltb}
 use lib.ListN.{length, take}
@@ -16,8 +16,11 @@ use Rattle.theory.specs.Lists.{first, any_below}
 use Rattle.theory.specs.Forms.{is_bad}
 use Rattle.theory.proofs.Tests.{which}
 use Rattle.theory.proofs.Searches.{first_cong, first_more}
+use Rattle.theory.proofs.Slices.{take-tab}
 use Rattle.theory.proofs.Valid.{long_bad, bad_front}
 use Rattle.forms.specs.Check.{terms_checked, form_checked}
+use Rattle.limits.specs.Limits.{word_bytes}
+use Rattle.files.specs.Bytes.{word_at, words_from}
 
 module _ (w : ℕ) where
   -- 7 at the first bad term, whatever the length
@@ -54,3 +57,9 @@ module _ (w : ℕ) where
       go : (ltb n (length ts) ≡ true) ⊎ (ltb n (length ts) ≡ false) → form_checked w (take m ts) ≡ form_checked w ts
       go (inl l) = let l : n < length ts = ltb-true n (length ts) l in let same : m ≡ n = omega arith in rw same (front_decides n ts h)
       go (inr l) = let l : length ts ≤ n = ltb-false n (length ts) l in ap (form_checked w) (take_all m ts (omega arith))
+
+  -- so do the first words in a file
+  pub words_decide : (n : ℕ) (f : List ℕ) (at m : ℕ) → 2 ^ w < n
+      → form_checked w (words_from f at (min m n)) ≡ form_checked w (words_from f at m)
+  unfolding words_from
+  words_decide n f at m h = rw (← take-tab n m (λ i. word_at f (at + word_bytes * i))) (front_decides n _ h)

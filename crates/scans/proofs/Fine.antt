@@ -24,7 +24,14 @@ use Rattle.scans.specs.Private.{value_around, all_left}
 use Rattle.scans.proofs.Windows.{value_filter}
 
 module _ (ts s : List ℕ) where
-  -- the root question: its answer speaks of the filter
+  -- the root question: the terms are a form, and there is a sample
+  pub root_fine : root_checked ts s ≡ Ok tt → Valid width ts × (1 ≤ length s)
+  unfolding root_checked
+  root_fine e =
+      let form = and_then_fine (form_checked width ts) _ e in
+      (fine_form width ts form.0, (scan_fine most_samples (length s) form.1).0)
+
+  -- its answer then speaks of the filter
   pub root_gives : {l r : ℕ} {found : Option ℕ} → form_checked width ts ≡ Ok tt → scan_checked most_samples (length s) ≡ Ok tt
       → (l ≡ before 0 held s) × (r ≡ after 0 held s) → Samples s → found ≡ root_found (value_around l r ts s) s → Root ts s (Ok found)
   unfolding root_checked
