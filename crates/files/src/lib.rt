@@ -101,6 +101,7 @@ fn file_length<K: Kind>(samples: usize, terms: usize) -> usize
 
 impl Trailer {
     // The trailer of a file; none where the file is shorter than one.
+    #[tactic(auto, using(crate::proofs::Numbers::trailer_read))]
     fn read(file: &[u8]) -> Option<Trailer>
         ensures { MatchOption result (length file.now < trailer_bytes)
             (λ t. (trailer_bytes ≤ length file.now) × (t ≡ trailer_of file.now)) }
@@ -220,6 +221,7 @@ impl<'a, K: Kind> ScanFile<'a, K> {
     }
 
     // The bytes of its samples, and those of its terms.
+    #[tactic(auto, unfolding(crate::specs::Layout::file_length, crate::specs::Layout::terms_distance), using(crate::proofs::Layouts::well_laid, crate::proofs::Layouts::whole))]
     fn parts(&self) -> (&'a [u8], &'a [u8])
         ensures samples { result.0.now ≡ take (K.FAMILY.bytes * sample_count K.FAMILY self.now.bytes.now) self.now.bytes.now }
         ensures terms { result.1.now ≡ take (word_bytes * term_count self.now.bytes.now)
@@ -273,6 +275,7 @@ impl<'a, K: Kind> ScanFile<'a, K> {
 // ---- reading
 
 // Reads words to the start of out.
+#[tactic(auto, using(crate::proofs::Numbers::read_next))]
 fn read_words(words: &[[u8; WORD_BYTES]], out: &mut [u16])
     requires { length words.now ≤ length out.old }
     ensures { out.new ≡ numbers words.now ++ drop (length words.now) out.old }
@@ -286,7 +289,7 @@ fn read_words(words: &[[u8; WORD_BYTES]], out: &mut [u16])
 // a bad term.
 const ENOUGH: usize = PATTERNS + 1;
 
-// The form check on words. Of more words than enough the front decides.
+// The form check on words. Of more words than enough the front decides: with no heap it is read to an array, of which `few` are in use.
 fn check_form(words: &[[u8; WORD_BYTES]]) -> Result<(), Refusal>
     ensures { result ≡ form_checked width (numbers words.now) }
 {
@@ -297,7 +300,7 @@ fn check_form(words: &[[u8; WORD_BYTES]]) -> Result<(), Refusal>
 }
 
 impl<'a> ScanFile<'a, OfCounts> {
-    // Its samples.
+    // Its samples. (A near twin of `terms`: but terms are words in a file of any family, and samples only where they take two bytes.)
     fn samples(&self) -> &'a [[u8; WORD_BYTES]]
         ensures { (numbers result.now ≡ file_samples self.now.bytes.now)
             × (length result.now ≡ sample_count counts_family self.now.bytes.now) }
@@ -340,7 +343,7 @@ pub fn read(file: &[u8], samples: &mut [u16], terms: &mut [u16]) -> Result<Sizes
 
 // ---- writing
 
-// Puts numbers one after another, each low byte first.
+// Puts numbers one after another, each low byte first. (Not by `chunks_exact_mut`: std says nothing of what a slice cut so ends as.)
 fn put_words(numbers: &[u16], out: &mut [u8])
     requires { length out.old ≡ word_bytes * length numbers.now }
     ensures { out.new ≡ in_words numbers.now }
@@ -353,7 +356,7 @@ fn put_words(numbers: &[u16], out: &mut [u8])
 
 // Refuses what a write of so many samples refuses, with so many bytes lent. The length needed is only computed of a form and a
 // scan that are allowed, so that it cannot wrap.
-#[tactic(auto, unfolding(crate::specs::Files::write_checked))]
+#[tactic(auto, unfolding(crate::specs::Files::write_checked), using(refusals::proofs::Shared::scan_fine, forms::proofs::Fine::fine_few, crate::proofs::Layouts::length_most))]
 fn admit_write<K: Kind>(terms: &[u16], samples: usize, lent: usize) -> Result<(), Refusal>
     ensures { result ≡ write_checked K.FAMILY terms.now samples lent }
 {
@@ -377,6 +380,7 @@ fn fill_file(terms: &[u16], scan: &[u16], out: &mut [u8])
 
 // Writes the file of a form and a scan to out, and answers its length. Refuses 7 and 8 of the terms, 9 of the scan, and
 // 10 where out is not exactly as long as the file, in this order; after a refusal out has not changed.
+#[tactic(auto, using(crate::proofs::Accepts::fine_write, forms::proofs::Fine::fine_few))]
 pub fn write(terms: &[u16], scan: &[u16], out: &mut [u8]) -> Result<usize, Refusal>
     ensures { Write terms.now scan.now out.old out.new result }
 {

@@ -124,6 +124,7 @@ fn allow(place: usize, allowed: bool, step: Step) -> Result<Step, Refusal>
 
 // The step of a code, a rank and a set, which stands at a place of a recipe. Refuses 2 where the code is
 // over 8 and 3 where a field is not allowed, each with the place.
+#[tactic(auto, unfolding(crate::specs::Steps::decoded_of), using(crate::proofs::Decodes::codes_1_4, crate::proofs::Decodes::codes_7_8, crate::proofs::Decodes::codes_over))]
 pub fn decode(place: usize, code: u8, rank: u8, set: u16) -> Result<Step, Refusal>
     ensures { result ≡ decoded_of place code rank set }
 {
@@ -212,7 +213,7 @@ impl Reach {
     }
 
     // After an erode, a rank or a median: lo+min B to hi+max B.
-    #[tactic(auto, unfolding(crate::specs::Private::eroded_reach))]
+    #[tactic(auto, unfolding(crate::specs::Private::eroded_reach), using(crate::proofs::Reaches::reach_by, crate::proofs::Reaches::read_sum))]
     fn eroded(self, set: u16) -> Option<Reach>
         ensures { result ≡ within (eroded_reach set self) }
     {
@@ -223,7 +224,7 @@ impl Reach {
     }
 
     // After a dilate: lo-max B to hi-min B.
-    #[tactic(auto, unfolding(crate::specs::Private::dilated_reach))]
+    #[tactic(auto, unfolding(crate::specs::Private::dilated_reach), using(crate::proofs::Reaches::reach_by, crate::proofs::Reaches::read_difference))]
     fn dilated(self, set: u16) -> Option<Reach>
         ensures { result ≡ within (dilated_reach set self) }
     {
@@ -234,7 +235,7 @@ impl Reach {
     }
 
     // After an open or a close: lo-(max B-min B) to hi+(max B-min B).
-    #[tactic(auto, unfolding(crate::specs::Private::opened_reach))]
+    #[tactic(auto, unfolding(crate::specs::Private::opened_reach), using(crate::proofs::Reaches::reach_by, crate::proofs::Reaches::read_sum, crate::proofs::Reaches::read_difference))]
     fn opened(self, set: u16) -> Option<Reach>
         ensures { result ≡ within (opened_reach set self) }
     {
@@ -299,7 +300,8 @@ impl Held {
     }
 }
 
-// Whether a recipe's steps are accepted: step by step 2, 3, 4, 5, then 4 at the end.
+// Whether a recipe's steps are accepted: step by step 2, 3, 4, 5, then 4 at the end. (By the place and not by the bytes of a step:
+// decoding asks for the place, since a refusal names it.)
 fn judge_steps(recipe: &[u8]) -> Result<(), Refusal>
     ensures { result ≡ judged recipe.now }
 {

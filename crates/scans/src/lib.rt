@@ -34,6 +34,7 @@ fn take_in(near: [u16; WIDTH], arriving: u16) -> [u16; WIDTH]
 }
 
 // The sample itself: it stands in the middle.
+#[tactic(auto, using(crate::proofs::Windows::middle_lt))]
 fn middle(near: [u16; WIDTH]) -> u16
     ensures { result ≡ get_or near (position_in reach) 0 }
 {

@@ -26,8 +26,9 @@ fn worth(i: usize) -> usize
     1 << i
 }
 
-// The table's value on the pattern v. Where the table has no byte for it, the value is 0.
-#[tactic(auto, unfolding(theory::specs::Tables::table_at))]
+// The table's value on the pattern v. Where the table has no byte for it, the value is 0. (This and the next two take table and pattern
+// apart: a struct of both would be made anew for each pattern asked for.)
+#[tactic(auto, unfolding(theory::specs::Tables::table_at), using(theory::proofs::Lists::get_or_beyond, theory::proofs::Sets::has_zero))]
 fn value_on(table: &[u8], v: usize) -> bool
     ensures { result ≡ table_at table.now v }
 {
@@ -155,7 +156,8 @@ fn byte_of(terms: &[u16], j: usize) -> u8
     bits::byte(array::from_fn(|i| { holds_on(terms, (BYTE_BITS * j + i) as u16) }))
 }
 
-// Writes the form's table.
+// Writes the form's table. (A twin of `read_bytes` of the compiler in shape: one function of both takes a closure, and can call it only
+// under a `requires`, which no public function here has; a trait in its place wants a test that is total, with a bound tested anew.)
 fn fill_table(terms: &[u16], table: &mut [u8])
     requires { length table.old ≡ table_bytes }
     ensures { table.new ≡ table_of table_bytes (holds terms.now) }
