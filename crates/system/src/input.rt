@@ -1,6 +1,6 @@
 // Reading an input to its end, or where it is too long, to where its length is known.
-ghost use Rattle.std.specs.Prelude.{◌≡◌, ◌≢◌, ◌+◌, ◌<◌, ℕ, List, length, take, drop, IfSome, IfNone, IfOk, IfErr};
-ghost use Rattle.std.specs.IoError.{error_kind};
+ghost use Rattle.std.specs.Prelude.{◌≡◌, ◌≢◌, ◌+◌, ◌<◌, ℕ, pos, List, length, take, drop, Some, IfSome, IfNone, IfOk, IfErr};
+ghost use Rattle.std.specs.IoError.{error_kind, raw_os_error};
 ghost use Rattle.std.specs.Io.KnownBytes.{Consumes, IsAtEnd, Keeps};
 ghost use Rattle.io.specs.Counts.{IsPrefixLen};
 ghost use Rattle.limits.specs.Limits.{longest_file};
@@ -41,7 +41,9 @@ pub fn file_room() -> [u8; FILE_ROOM]
 }
 
 // Why reading ends that has gone on as often as it may.
-pub fn given_up() -> Error {
+pub fn given_up() -> Error
+    ensures { raw_os_error result ≡ Some (pos 4) }
+{
     Error::from_raw_os_error(INTERRUPTED)
 }
 

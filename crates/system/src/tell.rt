@@ -1,5 +1,6 @@
 // Printing, and saying what could not be done.
-ghost use Rattle.std.specs.Prelude.{OnOk, OnErr};
+ghost use Rattle.std.specs.Prelude.{◌≡◌, OnOk, OnErr};
+ghost use Rattle.std.specs.Result.{MatchResult};
 ghost use Rattle.std.specs.Io.KnownBytes.{Appends};
 ghost use Rattle.system.specs.Writes.{AppendsPart};
 
@@ -46,10 +47,9 @@ fn words_alone(words: &str) -> &str {
 }
 
 // How a program ends: where something could not be done, that is said on standard error, and the status is 1.
-pub fn exit_code<R: Eprint, F: Display + Drop>(
-    rt: &R,
-    done: std::result::Result<(), F>,
-) -> ExitCode {
+pub fn exit_code<R: Eprint, F: Display + Drop>(rt: &R, done: std::result::Result<(), F>) -> ExitCode
+    ensures { MatchResult done (λ _. result.status ≡ 0) (λ _. result.status ≡ 1) }
+{
     match done {
         Ok(()) => ExitCode::SUCCESS,
         Err(failure) => {

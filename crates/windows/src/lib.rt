@@ -1,7 +1,7 @@
 // Windows: where the positions of a set stand in a row, the offsets that they stand for, and what stands beyond the ends of a row.
 //
 // A position stands in a column, and column k stands for the offset k - 4. Only `column` and `position` know that the positions stand
-// in the order of their offsets. No public function has a `requires`, and nothing is assumed. Each contract is an equation for the
+// in the order of their offsets. No public function has a `requires`, and nothing is assumed. Each public contract is an equation for the
 // result: it allows one.
 
 #![tactic(auto, unfolding(crate::specs::Private::stands, theory::specs::Signals::window, theory::specs::Signals::wide))]

@@ -1,6 +1,6 @@
 // An input, taken apart as it is read.
 //
-// A number past its end counts as 0, and a length over the room there is counts as that room. Neither
+// A byte past its end counts as 0, and a length over the room there is counts as that room. Neither
 // comes up in a stream of calls.
 ghost use Rattle.std.specs.Prelude.{◌≤◌, length};
 
