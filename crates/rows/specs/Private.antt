@@ -4,7 +4,7 @@ use Rattle.std.specs.Prelude.{◌≡◌, Bool, true, false, cond, List, map, ℕ
 use Rattle.limits.specs.Limits.{reach, width}
 use Rattle.theory.specs.Lists.{tab}
 use Rattle.theory.specs.Sets.{positions, is_set}
-use Rattle.theory.specs.Orders.{counts, larger, smaller}
+use Rattle.theory.specs.Orders.{counts}
 use Rattle.theory.specs.Ranks.{Pick, the_smallest, the_largest, insert, falling, pick}
 use Rattle.theory.specs.Signals.{window}
 use Rattle.rows.specs.Sizes.{opening, longest_row}

@@ -29,7 +29,8 @@ fn reached(term: u16, i: usize, value: u16) -> u16
 }
 
 // The smallest that the term reaches at positions i and i + 1. Both values are read before they are asked for, and no branch depends
-// on the term: so the compiler takes eight terms at a time.
+// on the term: so the compiler takes eight terms at a time. A struct of term, near and i would be made anew for each of the seven calls
+// in the tree, each with an i of its own: no plainer.
 fn smallest_of_two(term: u16, near: &[u16; WIDTH], i: usize) -> u16
     requires { i + 2 ≤ width }
     ensures { result ≡ smallest_in term near.now i 2 }
