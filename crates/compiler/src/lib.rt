@@ -53,7 +53,7 @@ fn read_byte(out: &[u16], j: usize) -> u8
     bits::byte(array::from_fn(|i| 1 <= out[(BYTE_BITS * j + i) * WIDTH + REACH]))
 }
 
-// The bytes of the truth table whose patterns the scan of a run shows.
+// The bytes of the truth table whose patterns the scan of a run shows. (A twin of `fill_table` of tables in shape; see there.)
 fn read_bytes(out: &[u16], bytes: &mut [u8])
     requires { length out.now ≡ length bytes.old * byte_samples }
     ensures { bytes.new ≡ table_of (length bytes.old) (middle_of out.now) }
