@@ -143,16 +143,15 @@ fn lend<R: Read, W: Write, F: FnOnce(&mut Wire<R, W>, &mut [u8]) -> Result<usize
     let answer = call(wire, lent);
     wire.value(answer);
     wire.elements(lent);
-    if let Ok(n) = answer {
-        print_line(wire, lent, n);
+    if let Some(line) = answer.ok().and_then(|n| lent.get(..n)) {
+        print_line(wire, line);
     }
 }
 
-// A line of so many bytes without its last one, which is the line feed.
-fn print_line<R, W: Write>(wire: &mut Wire<R, W>, lent: &[u8], n: usize) {
-    let line = n.checked_sub(1).and_then(|last| lent.get(..last));
-    if let Some(line) = line {
+// A line without its last byte, which is the line feed.
+fn print_line<R, W: Write>(wire: &mut Wire<R, W>, line: &[u8]) {
+    if let Some((_, text)) = line.split_last() {
         wire.print(b" ");
-        wire.print(line);
+        wire.print(text);
     }
 }

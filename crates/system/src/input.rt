@@ -129,7 +129,8 @@ pub fn read_file<S: Source>(source: &mut S, room: &mut [u8; FILE_ROOM]) -> Resul
     Ok(whole_length(source)?.length)
 }
 
-// The file of so many bytes that was read to a room: its bytes, or where it is too long, its length.
+// The file of so many bytes that was read to a room: its bytes, or where it is too long, its length. (The two lie apart, since a file may
+// be longer than the room is, and then no slice of it says how long.)
 pub fn file_in(room: &[u8; FILE_ROOM], length: usize) -> std::result::Result<&[u8], TooLong>
     ensures { (f : List ℕ) → IsRead length room.now f → IsFile result f }
 {
