@@ -2,7 +2,6 @@
 //
 // A slice is lent with a filler everywhere, at the length that stands next in the record, and is printed
 // behind the answer, as the call left it.
-use crate::answers;
 use crate::records::Record;
 use refusals::Refusal;
 use std::io::{Read, Write};
@@ -64,7 +63,7 @@ pub fn make<R: Read, W: Write>(wire: &mut Wire<R, W>, call: Call, record: Record
         Call::Compile => lend_words(wire, |_, lent| compiler::compile(bytes, lent)),
         Call::Write => lend_bytes(wire, |_, lent| files::write(terms, scan, lent)),
         Call::Read => lend_samples_and_terms(wire, bytes),
-        Call::Count => wire.answer(answers::counted(reports::count(bytes))),
+        Call::Count => wire.answer(reports::count(bytes).map(<[u64; 5]>::from)),
         Call::Line => lend_bytes(wire, |_, lent| lines::line(bytes, lent)),
     }
 }
@@ -125,7 +124,8 @@ fn lend_samples_and_terms<R: Read, W: Write>(wire: &mut Wire<R, W>, file: &[u8])
     let mut terms: [u16; LENT_WORDS] = room::filled(u16::FILLER);
     let samples = wire.lend(&mut samples);
     let terms = wire.lend(&mut terms);
-    wire.answer(answers::read(files::read(file, samples, terms)));
+    let read = files::read(file, samples, terms);
+    wire.answer(read.map(|sizes| [sizes.samples as u64, sizes.terms as u64]));
     wire.elements(samples);
     wire.elements(terms);
 }

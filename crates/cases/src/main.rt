@@ -5,7 +5,6 @@
 
 #![tactic(auto)]
 
-mod answers;
 mod calls;
 mod records;
 

@@ -1,8 +1,9 @@
 -- Only private contracts cite this: the answers of the calls with answers of their own, as what C is told.
-use Rattle.std.specs.Prelude.{ℕ, List, [], ◌∷◌, Result, Ok, Err, Option, Some, None}
+use Rattle.std.specs.Prelude.{ℕ, List, Result, Ok, Err, Option, Some, None}
 use Rattle.refusals.specs.declared.Refusal.{Refusal}
 use Rattle.files.specs.declared.Sizes.{Sizes}
 use Rattle.reports.specs.declared.Counts.{Counts}
+use Rattle.reports.specs.Counts.{five}
 
 -- the root question, on so many samples: the first that differs, or their number where none does
 abbrev pub sample_in : Result (Option ℕ) Refusal → ℕ → Result ℕ Refusal
@@ -27,5 +28,5 @@ counted_in (Err r) = Err r
 
 -- counting: the five numbers in the printed order; as they were, where nothing was counted
 abbrev pub five_in : Result Counts Refusal → List ℕ → List ℕ
-five_in (Ok c) before = c.samples ∷ c.changed ∷ c.spikes ∷ c.up ∷ c.down ∷ []
+five_in (Ok c) before = five c
 five_in (Err r) before = before

@@ -88,13 +88,7 @@ fn five_in(answer: Result<Counts, Refusal>, before: [u64; 5]) -> [u64; 5]
 {
     // A match: tried with map_or, and the proof didn't close.
     match answer {
-        Ok(counts) => [
-            counts.samples,
-            counts.changed,
-            counts.spikes,
-            counts.up,
-            counts.down,
-        ],
+        Ok(counts) => counts.into(),
         Err(_) => before,
     }
 }

@@ -63,16 +63,10 @@ fn put_answer(answer: Result<Counts, Notice>, out: &mut [u8]) -> usize
     ensures { Put (outcome_line (Opened answer)) out.old out.new result }
 {
     match answer {
-        Ok(counts) => put_numbers(
-            &[
-                counts.samples,
-                counts.changed,
-                counts.spikes,
-                counts.up,
-                counts.down,
-            ],
-            out,
-        ),
+        Ok(counts) => {
+            let numbers: [u64; 5] = counts.into();
+            put_numbers(&numbers, out)
+        }
         Err(refusal) => {
             let numbers = [refusal.number as u64, refusal.place as u64];
             let at = put_field(b"refused", SPACE, out);

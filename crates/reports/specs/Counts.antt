@@ -3,7 +3,7 @@
 use Rattle.std.specs.Prelude.{Result, Ok}
 use Rattle.refusals.specs.declared.Refusal.{Refusal}
 use Rattle.refusals.specs.Refusals.{and_then}
-use Rattle.std.specs.Prelude.{ℕ, ◌≡◌, Bool, cond, List, ltb, length, ℤ, nat_abs}
+use Rattle.std.specs.Prelude.{ℕ, ◌≡◌, Bool, cond, List, [], ◌∷◌, ltb, length, ℤ, nat_abs}
 use Rattle.std.specs.Int.Signed.{non_neg}
 use Rattle.theory.specs.Lists.{bit, sum}
 use Rattle.theory.specs.Signals.{held, residue_at}
@@ -38,6 +38,10 @@ counts_of n residue = record {
   up = sum n (λ x. above (residue x));
   down = sum n (λ x. below (residue x));
 }
+
+-- the five numbers in the printed order
+abbrev pub five : Counts → List ℕ
+five c = c.samples ∷ c.changed ∷ c.spikes ∷ c.up ∷ c.down ∷ []
 
 -- the counts of the form and the scan that the file f holds, the ends held
 abbrev pub counts_in : List ℕ → Counts

@@ -10,7 +10,7 @@ ghost use Rattle.limits.specs.Limits.{most_samples, most_terms};
 ghost use Rattle.theory.specs.Signals.{held, residue_at};
 ghost use Rattle.refusals.specs.declared.Refusal.TheVariants.{FileLength};
 ghost use Rattle.scans.specs.Run.{run_checked};
-ghost use Rattle.reports.specs.Counts.{kind_of, counts_of, Count};
+ghost use Rattle.reports.specs.Counts.{kind_of, counts_of, five, Count};
 ghost use Rattle.reports.specs.Private.{with_residue, IsBelow};
 
 use limits::{MOST_SAMPLES, MOST_TERMS};
@@ -29,6 +29,21 @@ pub struct Counts {
     pub up: u64,
     // The total of the negative residues, with the sign dropped.
     pub down: u64,
+}
+
+impl From<Counts> for [u64; 5] {
+    ghost from_gives = { λ counts numbers. numbers ≡ five counts };
+
+    // The numbers in the printed order.
+    fn from(counts: Counts) -> [u64; 5] {
+        [
+            counts.samples,
+            counts.changed,
+            counts.spikes,
+            counts.up,
+            counts.down,
+        ]
+    }
 }
 
 // A sample less its cleaned value.
