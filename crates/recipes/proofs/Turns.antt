@@ -1,7 +1,8 @@
 -- One turn of the loop over a recipe's steps: what the code holds, the last one last, is the machine's stack, the last one first.
 -- Assumes nothing.
 use Rattle.std.specs.Prelude.{Ok, Err, Option, Some, None, IfOk, IfErr}
-use Rattle.refusals.specs.declared.Refusal.TheVariants.{SignalsHeld, FarReach}
+use Rattle.refusals.specs.declared.Refusal.TheVariants.{SignalsHeld}
+use Rattle.refusals.specs.declared.Refusal.TheVariants as refusal
 use Rattle.refusals.specs.Refusals.{Checked, refuse_if}
 use Rattle.refusals.specs.declared.Refusal.{Refusal}
 use mathlib.Core.Path.{◌≡◌, refl, sym, ap, ◌∙◌}
@@ -136,11 +137,11 @@ joining (inr e) = rw e (refl, λ q r. refl)
 
 module _ {s : Step} {old mid : List Reach} {left : Option Reach} (h : Left s old mid left) (i : ℕ) where
   -- none in reach: refused under 5
-  pub left_far : left ≡ None → step_checked i (act reaches s (reverse old)) ≡ Err (FarReach i)
+  pub left_far : left ≡ None → step_checked i (act reaches s (reverse old)) ≡ Err (refusal.Reach i)
   unfolding step_checked added
   left_far e = go (which (in_reach h.v))
     where
-      go : (in_reach h.v ≡ true) ⊎ (in_reach h.v ≡ false) → step_checked i (act reaches s (reverse old)) ≡ Err (FarReach i)
+      go : (in_reach h.v ≡ true) ⊎ (in_reach h.v ≡ false) → step_checked i (act reaches s (reverse old)) ≡ Err (refusal.Reach i)
       go (inl t) = let some_left : left ≡ Some h.v = rw t at h.is in absurd (cc)
       go (inr f) = let short : length (reverse mid) < most_signals = rw (length-reverse mid) (h.room f) in rw (h.acted, lt-ltb _ _ short, f)
 

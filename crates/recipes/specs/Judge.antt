@@ -2,7 +2,8 @@
 use Rattle.recipes.specs.declared.Step.{Step}
 use Rattle.std.specs.Prelude.{Result, Ok, Err}
 use Rattle.refusals.specs.declared.Refusal.{Refusal}
-use Rattle.refusals.specs.declared.Refusal.TheVariants.{RecipeLength, SignalsHeld, FarReach}
+use Rattle.refusals.specs.declared.Refusal.TheVariants.{RecipeLength, SignalsHeld}
+use Rattle.refusals.specs.declared.Refusal.TheVariants as refusal
 use Rattle.refusals.specs.Refusals.{Checked}
 use Rattle.std.specs.Prelude.{ℕ, zero, suc, ◌+◌, ◌*◌, ◌/◌, ◌%◌, Bool, not, ◌&&◌, ◌||◌, List, [], leb, ltb, eqb, nat_abs, length, get_or}
 use Rattle.std.proofs.Math.Option.{Option, none, some}
@@ -18,7 +19,7 @@ in_reach r = leb (nat_abs r.lo) reach && leb (nat_abs r.hi) reach
 -- after step i: 4 where it cannot be done, 5 where the reach of the last signal leaves, and else what comes next
 unfoldable pub onward : ℕ → Option (List Reach) → (List Reach → Checked) → Checked
 onward i none next = Err (SignalsHeld i)
-onward i (some st) next = and_then (refuse_if (not (in_reach (get_or st 0 reaches.the_scan))) (FarReach i)) (next st)
+onward i (some st) next = and_then (refuse_if (not (in_reach (get_or st 0 reaches.the_scan))) (refusal.Reach i)) (next st)
 
 -- step i: 2 or 3 where it is none
 unfoldable pub stepped : ℕ → Result Step Refusal → List Reach → (List Reach → Checked) → Checked

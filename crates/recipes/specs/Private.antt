@@ -1,7 +1,8 @@
 -- Only private contracts cite this: the steps of a range of codes, all steps judged, and document 01's column "Reach" row by row.
 use Rattle.std.specs.Prelude.{Err, Option, Some, None}
 use Rattle.std.proofs.Math.Option.{Option as Maybe, none, some}
-use Rattle.refusals.specs.declared.Refusal.TheVariants.{SignalsHeld, FarReach}
+use Rattle.refusals.specs.declared.Refusal.TheVariants.{SignalsHeld}
+use Rattle.refusals.specs.declared.Refusal.TheVariants as refusal
 use Rattle.refusals.specs.Refusals.{Checked, refuse_if}
 use Rattle.std.specs.Prelude.{ℕ, ◌/◌, ◌≤◌, cond, not, get_or, List, [], eqb, ℤ, pos, nat_abs, ◌+ℤ◌, ◌-ℤ◌, length}
 use Rattle.limits.specs.Limits.{reach, step_bytes}
@@ -26,7 +27,7 @@ judged r = judged_from r (length r / step_bytes) 0 []
 -- step i, with what it makes of the reaches held: 4 where it cannot be done, 5 where the reach of the last signal leaves
 unfoldable pub step_checked : ℕ → Maybe (List Reach) → Checked
 step_checked i none = Err (SignalsHeld i)
-step_checked i (some st) = refuse_if (not (in_reach (get_or st 0 reaches.the_scan))) (FarReach i)
+step_checked i (some st) = refuse_if (not (in_reach (get_or st 0 reaches.the_scan))) (refusal.Reach i)
 
 -- the reach of the scan: 0 to 0
 abbrev pub origin : Reach

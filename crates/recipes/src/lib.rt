@@ -296,7 +296,7 @@ impl Held {
                 self.take(place)?.joined(last)
             }
         };
-        self.hold(place, left.ok_or(Refusal::FarReach(place))?)
+        self.hold(place, left.ok_or(Refusal::Reach(place))?)
     }
 }
 

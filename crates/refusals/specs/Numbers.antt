@@ -2,7 +2,7 @@
 use Rattle.std.specs.Prelude.{ℕ, Result, Ok, Err}
 use Rattle.refusals.specs.declared.Notice.{Notice}
 use Rattle.refusals.specs.declared.Refusal.{Refusal}
-use Rattle.refusals.specs.declared.Refusal.TheVariants.{RecipeLength, StepCode, StepField, SignalsHeld, FarReach, TermsLent, BadTerm, TermCount, ScanLength, OutputLength, NotPositive, TableLength, PresetNumber, FileLength, Mark, TermDistance, SampleDistance, BadName, NameCount}
+use Rattle.refusals.specs.declared.Refusal.TheVariants.{RecipeLength, StepCode, StepField, SignalsHeld, Reach, TermsLent, BadTerm, TermCount, ScanLength, OutputLength, NotPositive, TableLength, PresetNumber, FileLength, Mark, TermDistance, SampleDistance, BadName, NameCount}
 
 -- a number and a place
 abbrev pub notice : ℕ → ℕ → Notice
@@ -14,7 +14,7 @@ notice_of (RecipeLength length) = notice 1 length
 notice_of (StepCode step) = notice 2 step
 notice_of (StepField step) = notice 3 step
 notice_of (SignalsHeld step) = notice 4 step
-notice_of (FarReach step) = notice 5 step
+notice_of (Reach step) = notice 5 step
 notice_of (TermsLent needed) = notice 6 needed
 notice_of (BadTerm index) = notice 7 index
 notice_of (TermCount terms) = notice 8 terms

@@ -23,7 +23,7 @@ pub enum Refusal {
     // Too few signals held, a ninth added, or not one left; the step, or the number of steps.
     SignalsHeld(usize),
     // The reach leaves -4 to 4; the step.
-    FarReach(usize),
+    Reach(usize),
 
     // ---- of terms
 
@@ -83,7 +83,7 @@ impl From<Refusal> for Notice {
             Refusal::StepCode(step) => (2, step),
             Refusal::StepField(step) => (3, step),
             Refusal::SignalsHeld(step) => (4, step),
-            Refusal::FarReach(step) => (5, step),
+            Refusal::Reach(step) => (5, step),
             Refusal::TermsLent(needed) => (6, needed),
             Refusal::BadTerm(index) => (7, index),
             Refusal::TermCount(terms) => (8, terms),

@@ -18,7 +18,8 @@ def numbers_in(module):
 class Tables(unittest.TestCase):
     def test_the_refusals_are_those_of_the_crate(self):
         source = (ROOT / "crates/refusals/src/lib.rt").read_text(encoding="utf-8")
-        of_crate = {name: int(number) for name, number in re.findall(r"pub const (\w+): u8 = (\d+);", source)}
+        told = re.findall(r"Refusal::(\w+)\(\w+\) => \((\d+), \w+\),", source)
+        of_crate = {re.sub(r"(?<=.)([A-Z])", r"_\1", name).upper(): int(number) for name, number in told}
         self.assertGreater(len(of_crate), 0)
         self.assertEqual(numbers_in(refusals), of_crate)
         self.assertEqual(sorted(refusals.SENTENCES), sorted(of_crate.values()))

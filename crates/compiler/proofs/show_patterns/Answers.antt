@@ -7,6 +7,3 @@ loop-j-init c = fill_none _ _
 
 pub loop-j-preserved : goal.loop-j-preserved
 loop-j-preserved c = fill_more c.loop-j.invariant (omega arith) c.show.ensures
-
-pub returns : goal.returns
-returns c = fill_all c.loop-j.invariant (omega arith)

@@ -1,7 +1,7 @@
 -- `perform` meets its contract: what each arm of its match leaves, and what becomes of it.
 -- Assumes nothing.
 use Rattle.std.proofs.Common.{rules, arith, ◌≡◌, Err, sym, ap, ◌∙◌}
-use Rattle.refusals.specs.declared.Refusal.TheVariants.{FarReach}
+use Rattle.refusals.specs.declared.Refusal.TheVariants as refusal
 use Rattle.recipes.specs.Private.{within}
 use Rattle.recipes.proofs.Turns.{none_held, one_held, Left, left_scan, left_one, left_two, eroding, dilating, opening, joining, left_far, left_after}
 use Rattle.recipes.proofs.Held.perform.Goals as goal
@@ -58,7 +58,7 @@ returns-in_err-ok_or-clause-answer c =
     let p = c.in_err-ok_or.ensures in
     let r : c.from_residual-in_err-ok_or.result ≡ Err c.in_err-ok_or.field-0.0 = search rules in
     let value = rw p.ok_part at p.value in
-    let far : c.in_err-ok_or.field-0.0 ≡ FarReach c.args.place = cc in
+    let far : c.in_err-ok_or.field-0.0 ≡ refusal.Reach c.args.place = cc in
     r ∙ rw far (sym (left_far h c.args.place p.ok_part))
 
 pub returns : goal.returns
