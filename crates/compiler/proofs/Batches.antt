@@ -34,7 +34,7 @@ use Rattle.recipes.proofs.Accepted.{plan_fits}
 use Rattle.rows.proofs.Parts.{mid_length}
 use Rattle.runner.specs.Run.{ran, recipe_run_checked, Run}
 use Rattle.runner.proofs.Pieces.{filled_piece}
-use Rattle.compiler.specs.Private.{pattern_scan, middle_of, Batch}
+use Rattle.compiler.specs.Private.{sample_of, sample_at, pattern_scan, middle_of, Batch}
 use Rattle.compiler.proofs.Patterns.{showing_all, middle_truth}
 
 -- ---- an accepted run fills its slice
@@ -63,6 +63,18 @@ part_filled {f} {old} {new} {at} filled next g block more most rule e =
     (ap₂ (λ (b c : List ℕ). take at new ++ (b ++ c))
     (e ∙ ap (λ (m : ℕ). tab m g) long ∙ tab_cong (next - at) _ _ rule)
     (Post-is at next new (omega arith)))
+
+-- pattern i is shown
+pub pattern_filled : (first i : ℕ) {old new : List ℕ} {at : ℕ} → Filled (sample_at first) old new at → at ≡ i * width → (block : List ℕ)
+    → at + width ≤ length old → block ≡ tab (length (mid_of at (at + width - at) new)) (sample_of (first + i))
+    → Filled (sample_at first) old (put_mid at (at + width - at) new block) (at + width)
+pattern_filled first i {old} {new} {at} filled place block most e =
+    part_filled filled (at + width) _ block (omega arith) most
+    (λ j l.
+    let v : i ≡ (at + j) / width = omega arith in
+    let k : j ≡ (at + j) % width = omega arith in
+    ap₂ (λ (q r : ℕ). sample_of (first + q) r) v k)
+    e
 
 -- ---- the table of a batch
 

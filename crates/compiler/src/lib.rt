@@ -6,8 +6,9 @@
 
 #![tactic(auto)]
 
-ghost use Rattle.std.specs.Prelude.{◌≡◌, Ok, ◌+◌, ◌*◌, ◌<◌, ◌≤◌, length};
-ghost use Rattle.limits.specs.Limits.{patterns, byte_bits, table_bytes};
+ghost use Rattle.std.specs.Prelude.{◌≡◌, Ok, ◌+◌, ◌*◌, ◌%◌, ◌<◌, ◌≤◌, length};
+ghost use Rattle.limits.specs.Limits.{width, patterns, byte_bits, table_bytes};
+ghost use Rattle.theory.specs.Lists.{tab};
 ghost use Rattle.theory.specs.Sets.{gather};
 ghost use Rattle.theory.specs.Tables.{table_of};
 ghost use Rattle.recipes.specs.Meaning.{truth_of};
@@ -35,13 +36,24 @@ fn show(v: usize, k: usize) -> u16
     bits::bit(bits::has(v, windows::position(k))) as u16
 }
 
-// Fills a scan so that it shows the patterns from the first on, one after the other, column by column.
+// Fills a scan so that it shows the pattern v, column by column.
+fn show_pattern(scan: &mut [u16], v: usize)
+    ensures { scan.new ≡ tab (length scan.old) (sample_of v) }
+{
+    for (k, sample) in scan.iter_mut().enumerate() {
+        *sample = show(v, k);
+    }
+}
+
+// Fills a scan so that it shows whole patterns from the first on, one after the other. (By their number: after chunks_mut a proof knows a
+// slice's length alone. One loop over the samples divides at each of them, and a compile of one step took a third longer.)
 fn show_patterns(scan: &mut [u16], first: usize)
-    requires { first < patterns }
+    requires { (first < patterns) × (length scan.old % width ≡ 0) }
     ensures { scan.new ≡ pattern_scan first (length scan.old) }
 {
-    for (j, sample) in scan.iter_mut().enumerate() {
-        *sample = show(first + j / WIDTH, j % WIDTH);
+    for i in 0..scan.len() / WIDTH {
+        let at = i * WIDTH;
+        show_pattern(&mut scan[at..at + WIDTH], first + i);
     }
 }
 

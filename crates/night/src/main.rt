@@ -11,20 +11,22 @@
 // sheet where standard error is empty.
 #![tactic(auto)]
 
-ghost use Rattle.std.specs.Prelude.{◌≡◌, List, ℕ, ◌+◌, ◌≤◌, length, IfOk, IfSome, Ok};
+ghost use Rattle.std.specs.Prelude.{◌≡◌, List, ℕ, ◌+◌, ◌≤◌, length, take, IfOk, IfSome, OnOk, Ok};
+ghost use Rattle.std.specs.Io.KnownBytes.{Appends};
 ghost use Rattle.io.specs.Counts.{IsPrefixLen};
 ghost use Rattle.limits.specs.Limits.{longest_list};
-ghost use Rattle.refusals.specs.Numbers.{noticed};
+ghost use Rattle.refusals.specs.Numbers.{notice_of, noticed};
 ghost use Rattle.reports.specs.Counts.{file_counted};
 ghost use Rattle.lists.specs.Names.{list_checked};
 ghost use Rattle.totals.specs.declared.Outcome.TheVariants.{Opened};
 ghost use Rattle.totals.specs.Nights.{OfFile};
+ghost use Rattle.lines.specs.Lines.{refused_line};
 ghost use Rattle.system.specs.Reads.{IsFile};
 ghost use Rattle.night.specs.Private.{next_place, Judged, Reached, Accepts, Within, OfList};
 
 use limits::{LINE_BYTES, LONGEST_LIST, TOTALS_BYTES};
 use lists::Judge;
-use refusals::Refusal;
+use refusals::{Notice, Refusal};
 use std::io::{self, Read, Write};
 use std::ops::ControlFlow;
 use std::process::ExitCode;
@@ -167,6 +169,7 @@ where
     // Prints the line that a call has written to its room.
     fn print_line(&mut self, answer: Result<usize, Refusal>, room: &[u8]) -> Result<(), Failure>
         requires { Within (length room.now) answer }
+        ensures { IfOk answer (λ n. OnOk result (Appends (W.contents self.old.out) (W.contents self.new.out) (take n room.now))) }
     {
         // As many bytes are lent as each call wants, so none refuses.
         let n = answer.unwrap();
@@ -176,10 +179,19 @@ where
         })
     }
 
-    // (One function for this line and that of the totals is no plainer: it takes the call as a closure, and a clause for what that answers.)
+    // (One function for the three lines is no plainer: it takes the call as a closure, and a clause for what that answers.)
     fn print_outcome(&mut self, outcome: Outcome) -> Result<(), Failure> {
         let mut line = [0u8; LINE_BYTES];
         let answer = lines::outcome_line(outcome, &mut line);
+        self.print_line(answer, &line)
+    }
+
+    // A list has a refusal and is no file, so its line is not that of an outcome.
+    fn print_refusal(&mut self, refusal: Refusal) -> Result<(), Failure>
+        ensures { OnOk result (Appends (W.contents self.old.out) (W.contents self.new.out) (refused_line (notice_of refusal))) }
+    {
+        let mut line = [0u8; LINE_BYTES];
+        let answer = lines::refused_line(Notice::from(refusal), &mut line);
         self.print_line(answer, &line)
     }
 
@@ -234,8 +246,7 @@ where
     };
     match reading.judge.verdict() {
         Ok(()) => sheet.print(&text[..reading.bytes]),
-        // Its line is that of a file with this refusal.
-        Err(refusal) => sheet.print_outcome(Outcome::from(Err(refusal))),
+        Err(refusal) => sheet.print_refusal(refusal),
     }
 }
 

@@ -53,23 +53,36 @@ impl Call {
     }
 }
 
-// Makes the call, and prints its name, its answer and what it was lent.
+// Makes the call, and prints its name, its answer and what it was lent. The name of a call that is lent bytes goes out once their number
+// was read.
 pub fn make<R: Read, W: Write>(wire: &mut Wire<R, W>, call: Call, record: Record<'_>) {
-    wire.print(call.name());
+    let name = call.name();
     match call {
-        Call::CheckList => check_list(wire, record.text),
-        Call::Judge => pieces::judge(wire, record),
-        Call::LineEnd => line_end(wire, record.text),
-        Call::OutcomeLine => lend(wire, |wire, lent| {
+        Call::CheckList => {
+            wire.print(name);
+            check_list(wire, record.text);
+        }
+        Call::Judge => {
+            wire.print(name);
+            pieces::judge(wire, record);
+        }
+        Call::LineEnd => {
+            wire.print(name);
+            line_end(wire, record.text);
+        }
+        Call::OutcomeLine => lend(wire, name, |wire, lent| {
             lines::outcome_line(read_outcome(wire), lent)
         }),
-        Call::RefusedLine => lend(wire, |wire, lent| {
+        Call::RefusedLine => lend(wire, name, |wire, lent| {
             lines::refused_line(read_refusal(wire), lent)
         }),
-        Call::TotalsLine => lend(wire, |wire, lent| {
+        Call::TotalsLine => lend(wire, name, |wire, lent| {
             lines::totals_line(read_totals(wire), lent)
         }),
-        Call::Add => add(wire),
+        Call::Add => {
+            wire.print(name);
+            add(wire);
+        }
     }
 }
 
@@ -134,12 +147,14 @@ fn add<R: Read, W: Write>(wire: &mut Wire<R, W>) {
 
 fn lend<R: Read, W: Write, F: FnOnce(&mut Wire<R, W>, &mut [u8]) -> Result<usize, Refusal>>(
     wire: &mut Wire<R, W>,
+    name: &[u8],
     call: F,
 )
     requires { F.IsAlwaysCallable call }
 {
     let mut room: [u8; LENT_BYTES] = room::filled(u8::FILLER);
     let lent = wire.lend(&mut room);
+    wire.print(name);
     let answer = call(wire, lent);
     wire.value(answer);
     wire.elements(lent);

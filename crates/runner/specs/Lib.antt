@@ -2,3 +2,4 @@
 pub mod Run
 pub mod Private
 pub mod PrivateStacks
+pub mod PrivateChanges

@@ -4,6 +4,7 @@ use Rattle.std.proofs.lemmas.List.{drop-take, take-append-le, length-take-le}
 use Rattle.std.proofs.Math.Seq.{take-add, drop-append_seam}
 use Rattle.std.proofs.lemmas.Grind.{common_steps}
 use Rattle.std.specs.Io.KnownBytes.{Consumes, Appends}
+use Rattle.system.specs.Reads.{ReadsOn}
 
 -- the bytes that one read more took stand behind those that there were
 pub read_stands : (bytes n m : ℕ) (old part rest : List ℕ) → bytes ≤ length old → n ≤ length part → m ≡ bytes + n
@@ -34,6 +35,13 @@ takes_both None b c xs ys p q = tt
 takes_both (Some f) None c xs ys p q = absurd p
 takes_both (Some f) (Some g) None xs ys p q = absurd q
 takes_both (Some f) (Some g) (Some h) xs ys p q = grind (arith, common_steps)
+
+-- what there was in the slice, and what one read more brought
+pub reads_both : (a b c : Option (List ℕ)) (n m : ℕ) (old new : List ℕ) → n ≤ length old → ReadsOn n old new m → Consumes a b (take n old)
+    → Consumes b c (drop n (take m new)) → Consumes a c (take m new)
+reads_both a b c n m old new fit more p q =
+    let joined = read_joins n m old new (omega (arith, fit, more.enough)) more.kept in
+    rw joined at (takes_both a b c (take n old) (drop n (take m new)) p q)
 
 -- what two writes append, one after the other
 pub grows_twice : (a b c : Option (List ℕ)) (xs ys : List ℕ) → Appends a b xs → Appends b c ys → Appends a c (xs ++ ys)

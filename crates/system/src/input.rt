@@ -5,6 +5,7 @@ ghost use Rattle.std.specs.Io.KnownBytes.{Consumes, IsAtEnd, Keeps};
 ghost use Rattle.io.specs.Counts.{IsPrefixLen};
 ghost use Rattle.limits.specs.Limits.{longest_file};
 ghost use Rattle.system.specs.Reads.{ReadsOn, Kept, IsRead, IsFile};
+ghost use Rattle.system.specs.Private.{HasRead};
 
 use crate::long::TooLong;
 use limits::LONGEST_FILE;
@@ -70,11 +71,14 @@ pub fn read_more<R: Read>(reader: &mut R, bytes: usize, input: &mut [u8]) -> Res
 }
 
 // Reads until the input ends or the slice is full, and answers how many bytes it read. A read that a signal interrupts is taken up again.
+// Where a read fails, the bytes that were read before stay in the slice.
+#[tactic(auto, using(crate::proofs::Bytes::reads_both))]
 pub(crate) fn read_all<R: Read>(reader: &mut R, input: &mut [u8]) -> Result<usize>
     ensures in_bounds { IfOk result (λ n. IsPrefixLen n input.new) }
     ensures len { length input.new ≡ length input.old }
     ensures taken { IfOk result (λ n. Consumes (R.remaining reader.old) (R.remaining reader.new) (take n input.new)) }
     ensures ended { IfOk result (λ n. n < length input.old → IsAtEnd (R.remaining reader.new)) }
+    ensures failed { IfErr result (λ _. HasRead (R.remaining reader.old) (R.remaining reader.new) input.new) }
 {
     let mut bytes = 0;
     for _ in 0..MOST_READS {

@@ -32,17 +32,20 @@ fn fill<R: Read>(input: &mut R, bytes: &mut [u8]) {
     let _ = input.read_exact(bytes);
 }
 
-// The next bytes, 0 past the end.
+// The next bytes, 0 past the end. They are read two at a time: where one read brings what was sent together and no more, as of a datagram,
+// a number takes two bytes of each.
 fn next<R: Read, const N: usize>(input: &mut R) -> [u8; N] {
     let mut bytes = [0; N];
-    fill(input, &mut bytes);
+    for two in bytes.chunks_mut(2) {
+        fill(input, two);
+    }
     bytes
 }
 
 // Every number stands low byte first.
 impl<R: Read, W> Wire<R, W> {
     // The next number of two bytes.
-    pub(crate) fn two_bytes(&mut self) -> u16 {
+    pub fn two_bytes(&mut self) -> u16 {
         u16::from_le_bytes(next(&mut self.input))
     }
 
@@ -65,18 +68,18 @@ impl<R: Read, W> Wire<R, W> {
         numbers
     }
 
-    // The next length, at most what there is room for.
-    fn length(&mut self, room: usize) -> usize
-        ensures { result ≤ room }
+    // How many elements of the room the next argument asks for, at most all of them.
+    pub fn count_to_lend<T>(&mut self, room: &[T]) -> usize
+        ensures { result ≤ length room.now }
     {
-        room.min(self.four_bytes() as usize)
+        room.len().min(self.four_bytes() as usize)
     }
 
     // The start of the room, as long as the next argument asks for.
     pub fn lend<'a, T>(&mut self, room: &'a mut [T]) -> &'a mut [T]
         ensures { length result.now ≤ length room.old }
     {
-        let n = self.length(room.len());
+        let n = self.count_to_lend(room);
         &mut room[..n]
     }
 
@@ -89,16 +92,22 @@ impl<R: Read, W> Wire<R, W> {
         slots
     }
 
-    // The next run, which is put at the start of the room: a unit over and over.
+    // The next run, which is put at the start of the room: a unit over and over. Each turn doubles what there is of it, and a length has no
+    // more bits than there are turns. (Byte by byte, as by zip and cycle, it took up to thirty times as many instructions.)
     fn run<'a>(&mut self, room: &'a mut [u8]) -> &'a [u8]
         ensures { length result.now ≤ length room.old }
     {
         let unit = self.slice(room).len();
         let run = self.lend(room);
-        if let Some((first, rest)) = run.split_at_mut_checked(unit) {
-            for (slot, byte) in rest.iter_mut().zip(first.iter().cycle()) {
-                *slot = *byte;
+        let mut filled = unit.min(run.len());
+        for _ in 0..usize::BITS {
+            let (there, rest) = run.split_at_mut(filled);
+            let more = there.len().min(rest.len());
+            if more == 0 {
+                break;
             }
+            rest[..more].copy_from_slice(&there[..more]);
+            filled += more;
         }
         run
     }

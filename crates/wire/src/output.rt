@@ -23,9 +23,21 @@ impl<R, W: Write> Wire<R, W> {
         let _ = self.out.write_all(bytes);
     }
 
+    // A number behind what stands before it. The two are written apart, and where one cannot be, the other is tried all the same.
+    fn number_behind(&mut self, before: &[u8], n: u64) {
+        self.print(before);
+        let _ = write!(self.out, "{}", n);
+    }
+
     // A space and a number.
     pub fn word(&mut self, n: u64) {
-        let _ = write!(self.out, " {}", n);
+        self.number_behind(b" ", n);
+    }
+
+    // A space and an element, with its sign where it has one.
+    fn signed_word(&mut self, element: i64) {
+        let before: &[u8] = if element < 0 { b" -" } else { b" " };
+        self.number_behind(before, element.unsigned_abs());
     }
 
     // What a call answered: 0 and its values, or the number and the place of a refusal.
@@ -57,15 +69,15 @@ impl<R, W: Write> Wire<R, W> {
             let sum = lent
                 .iter()
                 .fold(0, |sum, element| mixed(sum, (*element).into()));
-            let _ = write!(self.out, " #{}", sum);
+            self.number_behind(b" #", sum);
             return;
         }
         for element in lent {
-            let _ = write!(self.out, " {}", (*element).into());
+            self.signed_word((*element).into());
         }
     }
 
-    pub(crate) fn end_of_line(&mut self) {
+    pub fn end_of_line(&mut self) {
         self.print(b"\n");
     }
 }

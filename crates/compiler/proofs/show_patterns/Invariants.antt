@@ -1,7 +1,9 @@
--- `compiler::show_patterns` meets its contract: the samples before j are written. Assumes nothing.
+-- `compiler::show_patterns` meets its contract: the samples of the patterns before i are written. Assumes nothing.
+use Rattle.std.proofs.Common.{◌*◌}
+use Rattle.limits.specs.Limits.{width}
 use Rattle.theory.proofs.Fills.{Filled}
 use Rattle.compiler.specs.Private.{sample_at}
 use Rattle.compiler.proofs.show_patterns.Given as goal
 
-abbrev pub invariant-loop-j : goal.invariant-loop-j
-invariant-loop-j l = Filled (sample_at l.first) l.initial.scan l.scan l.j
+abbrev pub invariant-loop-i : goal.invariant-loop-i
+invariant-loop-i l = Filled (sample_at l.first) l.initial.scan l.scan (l.i * width)

@@ -1,15 +1,13 @@
--- `tables::holds_on` meets its contract. Assumes nothing.
-use Rattle.std.proofs.Common.{rules, ◌∙◌}
-use Rattle.std.proofs.lemmas.Iterator.{YieldsList-from_slice}
-use Rattle.std.proofs.lemmas.Iterator.Search.{any_from_yields_List}
-use borrow.Author.Tests.{tests}
-use Rattle.theory.specs.Sets.{within}
+use Rattle.std.proofs.Common.{rules, arith, sym, ◌∙◌}
 use Rattle.theory.specs.Forms.{holds}
-use Rattle.forms.proofs.Chains.{any_list}
+use Rattle.theory.proofs.Searches.{index_by, index_no}
 use Rattle.tables.proofs.holds_on.Goals as goal
+
+pub returns-then-is_within : goal.returns-then-is_within
+unfolding holds
+returns-then-is_within c =
+    sym (index_by 0 _ _ c.loop-term.term-index (search rules) (sym c.is_within.ensures ∙ c.if-is_within.true))
 
 pub returns : goal.returns
 unfolding holds
-returns c =
-    any_from_yields_List (λ t. within t c.args.v) _ _ _ c.any.ensures.ran (YieldsList-from_slice c.args.terms.now (search rules)) (λ x b q k. search (rules, tests))
-    ∙ any_list _ _
+returns c = sym (index_no 0 _ _ (λ k l. c.loop-term.invariant.1 k (omega arith)))
