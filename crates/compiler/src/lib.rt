@@ -46,7 +46,7 @@ fn show_pattern(scan: &mut [u16], v: usize)
 }
 
 // Fills a scan so that it shows whole patterns from the first on, one after the other. (By their number: after chunks_mut a proof knows a
-// slice's length alone. One loop over the samples divides at each of them, and a compile of one step took a third longer.)
+// slice's length alone. One loop over the samples divides at each of them, and a compile of one step took half as long again.)
 fn show_patterns(scan: &mut [u16], first: usize)
     requires { (first < patterns) × (length scan.old % width ≡ 0) }
     ensures { scan.new ≡ pattern_scan first (length scan.old) }

@@ -93,7 +93,7 @@ impl<R: Read, W> Wire<R, W> {
     }
 
     // The next run, which is put at the start of the room: a unit over and over. Each turn doubles what there is of it, and a length has no
-    // more bits than there are turns. (Byte by byte, as by zip and cycle, it took up to thirty times as many instructions.)
+    // more bits than there are turns. (By zip and cycle a unit of 256 bytes took ten times as long.)
     fn run<'a>(&mut self, room: &'a mut [u8]) -> &'a [u8]
         ensures { length result.now ≤ length room.old }
     {
