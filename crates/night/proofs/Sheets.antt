@@ -1,6 +1,6 @@
 -- The sheet, file by file: after each line the totals are the running totals of what became of the files so far, and the lines that are
 -- left make up the rest of the list. Assumes nothing.
-use mathlib.Core.Path.{◌≡◌, refl, sym, ap, ap₂, subst, ◌∙◌}
+use mathlib.Core.Path.{◌≡◌, refl, sym, ap, subst, ◌∙◌}
 use mathlib.Core.List.Memᴰ
 use mathlib.Core.List.{List, [], ◌∷◌, ◌++◌, foldl-append, Memᴰ}
 use mathlib.Core.Logic.{◌⊎◌, inl, inr}
@@ -8,6 +8,7 @@ use Prim.Native.Nat.{ℕ, ◌+◌, ◌≤◌, ◌<◌}
 use native.Mathlib.Numerals.{add-one}
 use native.Mathlib.Omega.{arith}
 use lib.ListN.{length, take, drop, length-append, drop_of_length-le}
+use lib.Seq.{take_at}
 use borrow.Author.Tests.{eq-eqb}
 use Rattle.limits.specs.Limits.{most_names}
 use Rattle.refusals.specs.declared.Refusal.{Refusal}
@@ -23,7 +24,6 @@ use Rattle.totals.specs.declared.Totals.{Totals}
 use Rattle.totals.specs.Totals.{nothing, added}
 use Rattle.totals.specs.declared.Outcome.TheVariants.{Unopened}
 use Rattle.totals.specs.Nights.{OfFile, OfFiles, not_opened, running}
-use Rattle.std.proofs.Math.Seq.{take-append_seam}
 use Rattle.std.specs.Prelude.{Option, Some, None, IfSome, IfOk, Result, Ok, Err}
 use Rattle.std.specs.Option.{unwrap_or}
 use Rattle.totals.proofs.Nights.{night_exact}
@@ -40,15 +40,11 @@ line_within room text old new (Err r) e p same =
 
 -- what holds of the start of the room, as far as its call answers, holds of the line
 pub line_printed : (P : List ℕ → Type 0) (room : ℕ) (text old new : List ℕ) (r : Result ℕ Refusal) → length old ≡ room → Writes room text old new r
-    → IfOk r (λ n. P (take n new)) → P text
-unfolding lent_checked
-line_printed P room text old new (Ok n) e p q =
+    → length new ≡ length old → IfOk r (λ n. P (take n new)) → P text
+line_printed P room text old new (Ok n) e p same q =
     let fine = done_fine (lent_checked room (length old)) (length text) n p.answer in
-    let out = rw fine.0 at p.out in
-    subst P (ap₂ (λ (k : ℕ) (xs : List ℕ). take k xs) fine.1 out ∙ take-append_seam text (drop (length text) old)) q
-line_printed P room text old new (Err r) e p q =
-    let never = rw (e, eq-eqb room room refl) at p.answer in
-    absurd (cc)
+    subst P (ap (take n) (rw fine.0 at p.out) ∙ take_at text _ n (sym fine.1)) q
+line_printed P room text old new (Err r) e p same q = absurd (line_within room text old new (Err r) e p same)
 
 -- a file that cannot be opened and read is not opened
 pub opened_or : (r : Option Outcome) → IfSome r OfFile → OfFile (unwrap_or r Unopened)

@@ -12,5 +12,5 @@ returns g c =
     let printed =
     line_printed
     (λ (xs : List ℕ). OnOk c.print_line.result (Appends (g.W.Write.contents c.args.self.now.out) (g.W.Write.contents c.print_line.new.self.out) xs))
-    128 (refused_line c.from.result) _ _ _ (omega arith) c.refused_line-answer.ensures c.print_line.ensures in
+    128 (refused_line c.from.result) _ _ _ (omega arith) c.refused_line-answer.ensures c.refused_line-answer.auto.out c.print_line.ensures in
     rw c.from.ensures at printed
